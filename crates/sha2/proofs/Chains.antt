@@ -1,0 +1,40 @@
+-- Laws of the chain of hash values over a text's blocks, for every kind.
+use Prim.Native.Nat.{ℕ, zero, suc, _+_, _-_, _*_}
+use mathlib.Core.Path.{_≡_, refl}
+use mathlib.Core.List.{List}
+use native.Mathlib.Nat.{add-zero, add-suc, mul-suc, mul-add}
+use native.Mathlib.Numerals.{add-one}
+use native.Mathlib.Omega.{arith}
+use lib.ListN.{take, drop}
+use lib.Seq.{drop-drop}
+use Rattle.sha2.specs.Kind.{Kind, size}
+use Rattle.sha2.specs.Compression.{compress, chain}
+use Rattle.sha2.specs.Sha256.{sha256}
+use Rattle.sha2.proofs.Lists.{same-part, same-front}
+
+pub chain-more :
+    (h t : List ℕ) {v u : List ℕ} (i from to : ℕ)
+    → from ≡ 64 * i
+    → to ≡ from + 64
+    → v ≡ chain sha256 h i t
+    → u ≡ compress sha256 v (take (to - from) (drop from t))
+    → u ≡ chain sha256 h (i + 1) t
+unfolding chain
+chain-more h t i from to e f p q =
+    let n : to - from ≡ 64 = omega arith in
+    rw (add-one, q, p, n, e)
+
+module _ (s : Kind) (h : List ℕ) where
+  -- n blocks look at no more than n blocks
+  pub chain-agree : (n : ℕ) (x y : List ℕ) → take (size s * n) x ≡ take (size s * n) y → chain s h n x ≡ chain s h n y
+  unfolding chain
+  chain-agree zero x y e = refl
+  chain-agree (suc n) x y e =
+      let f : take (size s * n + size s) x ≡ take (size s * n + size s) y = rw mul-suc at e in
+      rw (chain-agree n x y (same-front (size s * n) (size s) x y f), same-part (size s * n) (size s) x y f)
+
+  -- the blocks of a text in two goes
+  pub chain-add : (a b : ℕ) (x : List ℕ) → chain s h (a + b) x ≡ chain s (chain s h a x) b (drop (size s * a) x)
+  unfolding chain
+  chain-add a zero x = rw add-zero
+  chain-add a (suc b) x = rw (add-suc, chain-add a b x, drop-drop (size s * b) (size s * a) x, mul-add)

@@ -1,0 +1,24 @@
+use Prim.Native.Nat.{ℕ, _+_, _*_, _/_, _%_}
+use mathlib.Core.Path.{refl, _∙_}
+use native.Mathlib.Omega.{arith}
+use Rattle.sha2.proofs.Finishing.{finished}
+use borrow.Author.Needs.{needs}
+use Rattle.sha2.proofs.digest.Digest.finish.Statement.{statement}
+use Rattle.sha2.proofs.digest.Digest.finish.Tie as tie
+
+returns : tie.Need-returns
+returns c =
+    let a = c .before .before .before .before .before .before .before .args in
+    let rest : ℕ = a .self .len % 64 in
+    let n : ℕ = (rest + 72) / 64 in
+    λ t d.
+    c .spread .ensures
+    ∙ finished d (c .before .before .before .before .closed .result) rest n (a .self .len * 8) (omega arith) refl refl
+    (c .before .before .before .before .closed .ensures)
+    (c .before .chain .ensures)
+
+pub finish-spec : {M : Type 1} → statement M
+finish-spec =
+    tie.close
+    (tie.spec (λ c. search needs) (λ c. search needs) (λ c. search needs) (λ c κs. search needs) (λ c. search needs) (λ c κs. search needs)
+    (λ c κs. search needs) returns)

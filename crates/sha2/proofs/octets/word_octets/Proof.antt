@@ -1,0 +1,14 @@
+use native.Mathlib.Nat.{div-one}
+use Rattle.sha2.specs.Words.{bytes}
+use borrow.Author.Needs.{needs}
+use Rattle.sha2.proofs.octets.word_octets.Statement.{statement}
+use Rattle.sha2.proofs.octets.word_octets.Tie as tie
+
+returns : tie.Need-returns
+unfolding bytes
+returns c = rw div-one
+
+pub word-octets-spec : {M : Type 1} → statement M
+word-octets-spec =
+    tie.close
+    (tie.spec (λ c. search needs) (λ c. search needs) (λ c. search needs) (λ c. search needs) returns)

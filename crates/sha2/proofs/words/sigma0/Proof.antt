@@ -1,0 +1,11 @@
+use borrow.Author.Needs.{needs}
+use Rattle.sha2.proofs.words.sigma0.Statement.{statement}
+use Rattle.sha2.proofs.words.sigma0.Tie as tie
+
+returns : tie.Need-returns
+returns c = cc
+
+pub sigma0-spec : {M : Type 1} → statement M
+sigma0-spec =
+    tie.close
+    (tie.spec (λ c κs. search needs) (λ c κs. search needs) returns)

@@ -1,0 +1,10 @@
+-- SHA-2 as FIPS 180-4 defines it, over the width of a word, and what is proved of it.
+pub mod Words
+pub mod Kind
+pub mod Compression
+pub mod Padding
+pub mod Digest
+pub mod Sha256
+pub mod Running
+pub mod Blocks
+pub mod Examples

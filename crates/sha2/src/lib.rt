@@ -1,0 +1,5 @@
+// SHA-256 of FIPS 180-4: one block, and a running digest that takes a text part by part.
+pub mod compression;
+pub mod digest;
+mod octets;
+mod words;
