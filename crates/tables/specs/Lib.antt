@@ -1,0 +1,4 @@
+-- The numbers of document 01, and what the unpacked table is.
+pub mod Limits
+pub mod Refusals
+pub mod Tables
