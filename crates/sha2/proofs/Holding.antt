@@ -2,12 +2,13 @@
 use Prim.Native.Nat.{ℕ, suc, _+_, _-_, _*_, _≤_, _<_}
 use mathlib.Core.Path.{_≡_, sym, ap, _∙_}
 use mathlib.Core.List.{List, _++_, append-nil}
-use native.Mathlib.Nat.{mul-suc, mul-add}
+use native.Mathlib.Nat.{mul-suc, mul-add, mul-one}
+use native.Mathlib.Numerals.{add-one}
 use native.Mathlib.Omega.{arith}
 use lib.ListN.{length, take, drop, length-append, length-drop, drop-of-length-le}
 use lib.Seq.{take-all, take-append-le, drop-append-le, take-append-add, drop-append-add, length-take-le, drop-drop, take-at, paste, length-paste, take-paste}
 use Rattle.sha2.specs.Kind.{Kind, size}
-use Rattle.sha2.specs.Compression.{compress, chain}
+use Rattle.sha2.specs.Compression.{chain}
 use Rattle.sha2.specs.Running.{Held}
 use Rattle.sha2.proofs.Chains.{chain-agree, chain-add}
 
@@ -59,7 +60,7 @@ module _ (s : Kind) {h tail t : List ℕ} {len : ℕ} (d : Held s h tail len t) 
       (blocks : room + size s * w ≤ length part)
       (over : length part < room + size s * w + size s)
       (in-block : block ≡ paste tail rest (take room part) room)
-      (one : h₁ ≡ compress s h block)
+      (one : h₁ ≡ chain s h 1 block)
       (more : h₂ ≡ chain s h₁ w (drop room part))
       (in-tail : last ≡ paste block 0 (drop (room + size s * w) part) (length (drop (room + size s * w) part)))
     where
@@ -99,8 +100,15 @@ module _ (s : Kind) {h tail t : List ℕ} {len : ℕ} (d : Held s h tail len t) 
           ∙ rw (left-more, ← rest-long) (drop-append-add (take (d .rest) tail) part room)
 
       one-more : h₁ ≡ chain s (s .start) (suc (d .whole)) x
-      unfolding chain
-      one-more = rw (one, ← block-at, ← chain-kept)
+      one-more =
+          let y : List ℕ = drop (size s * d .whole) x in
+          let same-block : take (size s * 1) block ≡ take (size s * 1) y =
+          rw mul-one (take-all (size s) block (omega (arith, block-long)) ∙ block-at) in
+          one
+          ∙ chain-agree s h 1 block y same-block
+          ∙ ap (λ (g : List ℕ). chain s g 1 y) chain-kept
+          ∙ sym (chain-add s (s .start) (d .whole) 1 x)
+          ∙ ap (λ (n : ℕ). chain s (s .start) n x) (add-one (d .whole))
 
       all-more : h₂ ≡ chain s (s .start) (suc (d .whole) + w) x
       all-more = rw (chain-add s (s .start) (suc (d .whole)) w x, behind, ← one-more) more

@@ -77,7 +77,7 @@ const K: [u32; 64] = [
     0xc67178f2,
 ];
 
-// The constants, bound once by whoever reads them in a loop: a read of K itself lays all of K down.
+// The constants, bound once for all blocks of a text: a read of K itself lays all of K down.
 fn table() -> [u32; 64]
     ensures { λ r. ⌜ r ≡ constants ⌝ }
 {
@@ -148,10 +148,10 @@ fn round(v: [u32; 8], k: u32, w: u32) -> [u32; 8]
 }
 
 // All 64 rounds, eight a turn: the working variables then change places by their names and not by moves.
-fn mixed(h: [u32; 8], w: [u32; 64]) -> [u32; 8]
+fn mixed(h: [u32; 8], w: [u32; 64], k: &[u32; 64]) -> [u32; 8]
+    requires { ⌜ now k ≡ constants ⌝ }
     ensures { λ r. ⌜ r ≡ rounds sha256 64 h w ⌝ }
 {
-    let k = table();
     let mut v = h;
     let mut turn = 0;
     while turn < 8 {
@@ -187,12 +187,12 @@ fn added(h: [u32; 8], v: [u32; 8]) -> [u32; 8]
 }
 
 // The hash value after one more block.
-pub fn compress(h: [u32; 8], block: &[u8]) -> [u32; 8]
-    requires { ⌜ length (now block) ≡ 64 ⌝ }
+fn compress(h: [u32; 8], block: &[u8], k: &[u32; 64]) -> [u32; 8]
+    requires { ⌜ (length (now block) ≡ 64) × (now k ≡ constants) ⌝ }
     ensures { λ r. ⌜ r ≡ Compression.compress sha256 h (now (block .entry)) ⌝ }
 {
     let w = schedule(block);
-    added(h, mixed(h, w))
+    added(h, mixed(h, w, k))
 }
 
 // The hash value after the first n blocks of a text.
@@ -200,12 +200,13 @@ pub fn chain(h: [u32; 8], text: &[u8], n: usize) -> [u32; 8]
     requires { ⌜ 64 * n ≤ length (now text) ⌝ }
     ensures { λ r. ⌜ r ≡ Compression.chain sha256 h n (now (text .entry)) ⌝ }
 {
+    let k = table();
     let mut v = h;
     let mut i = 0;
     while i < n {
         let from = 64 * i;
         let to = from + 64;
-        let u = compress(v, &text[from..to]);
+        let u = compress(v, &text[from..to], &k);
         v = u;
         i += 1;
     }

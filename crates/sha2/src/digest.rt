@@ -86,7 +86,7 @@ impl Digest {
         }
         let block = filled(tail, rest, &part[..room]);
         let whole = (n - room) / 64;
-        let state = compression::compress(state, &block);
+        let state = compression::chain(state, &block, 1);
         let state = compression::chain(state, &part[room..], whole);
         let from = room + 64 * whole;
         let tail = filled(block, 0, &part[from..]);

@@ -17,6 +17,7 @@ pub mod FirstClash
 pub mod JoinAlgebra
 pub mod RulesLaws
 pub mod Theorem1
+pub mod RowLabels
 pub mod RowsLaws
 pub mod NumbersLaws
 pub mod StackLaws

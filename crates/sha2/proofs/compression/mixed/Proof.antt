@@ -9,10 +9,10 @@ use Rattle.sha2.proofs.compression.mixed.Statement.{statement}
 use Rattle.sha2.proofs.compression.mixed.Tie as tie
 
 abbrev Inv-loop : tie.InvT-loop
-Inv-loop w k v₀ turn₀ v turn = (turn ≤ 8) × (v ≡ rounds sha256 (8 * turn) v₀ w)
+Inv-loop k w v₀ turn₀ v turn = (turn ≤ 8) × (v ≡ rounds sha256 (8 * turn) v₀ w)
 
 abbrev μ-loop : tie.MeasureT-loop
-μ-loop w k v₀ turn₀ v turn = 8 - turn
+μ-loop k w v₀ turn₀ v turn = 8 - turn
 
 loop-holds : tie.Need-loop-holds Inv-loop μ-loop
 unfolding rounds
@@ -20,16 +20,16 @@ loop-holds c = (search needs, refl)
 
 loop-again : tie.Need-loop-again Inv-loop μ-loop
 loop-again c =
-    let l = c .before .before .before .before .before .before .before .before .before .loop in (
+    let l = c .before .before .before .before .before .before .before .before .before .before .before .before .before .before .before .before .before .loop in (
       search needs,
-      rounds-eight _ _ (l .turn) (8 * l .turn) refl (c .before .before .before .before .before .before .before .before .before .before .table .ensures) (l .inv .1)
-          (c .before .before .before .before .before .before .before .round .ensures)
-          (c .before .before .before .before .before .before .round2 .ensures)
-          (c .before .before .before .before .before .round3 .ensures)
-          (c .before .before .before .before .round4 .ensures)
-          (c .before .before .before .round5 .ensures)
-          (c .before .before .round6 .ensures)
-          (c .before .round7 .ensures)
+      rounds-eight _ _ (l .turn) (8 * l .turn) refl (c .before .before .before .before .before .before .before .before .before .before .before .before .before .before .before .before .before .before .pre) (l .inv .1)
+          (c .before .before .before .before .before .before .before .before .before .before .before .before .before .before .round .ensures)
+          (c .before .before .before .before .before .before .before .before .before .before .before .before .round2 .ensures)
+          (c .before .before .before .before .before .before .before .before .before .before .round3 .ensures)
+          (c .before .before .before .before .before .before .before .before .round4 .ensures)
+          (c .before .before .before .before .before .before .round5 .ensures)
+          (c .before .before .before .before .round6 .ensures)
+          (c .before .before .round7 .ensures)
           (c .round8 .ensures),
     )
 
@@ -42,12 +42,12 @@ returns c =
 pub mixed-spec : {M : Type 1} → statement M
 mixed-spec =
     tie.close
-    (tie.spec Inv-loop μ-loop (λ c κs. search needs) loop-holds (λ c. search needs) (λ c. search needs) (λ c. search needs) (λ c. search needs)
-    (λ c. search needs) (λ c κs. search needs) (λ c. search needs) (λ c. search needs) (λ c. search needs) (λ c. search needs) (λ c. search needs)
-    (λ c. search needs) (λ c κs. search needs) (λ c. search needs) (λ c. search needs) (λ c. search needs) (λ c. search needs) (λ c. search needs)
-    (λ c. search needs) (λ c κs. search needs) (λ c. search needs) (λ c. search needs) (λ c. search needs) (λ c. search needs) (λ c. search needs)
-    (λ c. search needs) (λ c κs. search needs) (λ c. search needs) (λ c. search needs) (λ c. search needs) (λ c. search needs) (λ c. search needs)
-    (λ c. search needs) (λ c κs. search needs) (λ c. search needs) (λ c. search needs) (λ c. search needs) (λ c. search needs) (λ c. search needs)
-    (λ c. search needs) (λ c κs. search needs) (λ c. search needs) (λ c. search needs) (λ c. search needs) (λ c. search needs) (λ c. search needs)
-    (λ c. search needs) (λ c κs. search needs) (λ c. search needs) (λ c. search needs) (λ c. search needs) (λ c. search needs) (λ c. search needs)
-    (λ c. search needs) (λ c κs. search needs) (λ c. search needs) (λ c. search needs) loop-again returns)
+    (tie.spec Inv-loop μ-loop loop-holds (λ c. search needs) (λ c. search needs) (λ c. search needs) (λ c. search needs) (λ c. search needs)
+    (λ c κs. search needs) (λ c. search needs) (λ c. search needs) (λ c. search needs) (λ c. search needs) (λ c. search needs) (λ c. search needs)
+    (λ c κs. search needs) (λ c. search needs) (λ c. search needs) (λ c. search needs) (λ c. search needs) (λ c. search needs) (λ c. search needs)
+    (λ c κs. search needs) (λ c. search needs) (λ c. search needs) (λ c. search needs) (λ c. search needs) (λ c. search needs) (λ c. search needs)
+    (λ c κs. search needs) (λ c. search needs) (λ c. search needs) (λ c. search needs) (λ c. search needs) (λ c. search needs) (λ c. search needs)
+    (λ c κs. search needs) (λ c. search needs) (λ c. search needs) (λ c. search needs) (λ c. search needs) (λ c. search needs) (λ c. search needs)
+    (λ c κs. search needs) (λ c. search needs) (λ c. search needs) (λ c. search needs) (λ c. search needs) (λ c. search needs) (λ c. search needs)
+    (λ c κs. search needs) (λ c. search needs) (λ c. search needs) (λ c. search needs) (λ c. search needs) (λ c. search needs) (λ c. search needs)
+    (λ c κs. search needs) (λ c. search needs) (λ c. search needs) loop-again returns)

@@ -44,8 +44,8 @@ returns-2 c =
     λ t d.
     held-long sha256 d part rest room w (omega arith) (omega arith) there (omega arith) (omega arith)
     (c .before .before .before .before .before .before .filled2 .ensures ∙ ap (paste _ rest (take room part)) (length-take-le room part there))
-    (c .before .before .before .before .compress .ensures)
-    (c .before .before .chain .ensures ∙ ap (chain sha256 _ w) (tail-part part room))
+    (c .before .before .before .before .chain .ensures)
+    (c .before .before .chain2 .ensures ∙ ap (chain sha256 _ w) (tail-part part room))
     (c .filled3 .ensures ∙ ap (λ (l : List ℕ). paste (c .before .before .before .before .before .before .filled2 .result) 0 l (length l)) (tail-part part (room + 64 * w)))
 
 pub absorb-spec : {M : Type 1} → statement M
