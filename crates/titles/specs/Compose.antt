@@ -1,0 +1,101 @@
+-- Document 01, 'Titles', refusals 11 and 17 to 20, 'Order': what the composer answers and leaves in the buffer, for every title.
+use Prim.Native.Nat.{ℕ, _+_}
+use mathlib.Core.Path.{_≡_}
+use mathlib.Core.Bool.{Bool, true, false, cond, not}
+use mathlib.Core.List.{List, [], _∷_, _++_}
+use lib.Dec.{ltb, eqb}
+use lib.ListN.{length, drop}
+use Rattle.titles.specs.Refusals.{accepted, outputShort, titleLong, notUtf8, outsideRepertoire, looseMark, maxBytes}
+use Rattle.titles.specs.Utf8.{ill, width, encodes, decode}
+use Rattle.titles.specs.Repertoire.{isMark, plain, allPlain}
+use Rattle.titles.specs.Pairs.{found, pairs}
+use Rattle.titles.specs.declared.Composed.{Composed}
+
+-- 'A mark directly after a letter joins it': the joined letter, or 0
+unfoldable pub joined : ℕ → ℕ → ℕ
+joined l m = found pairs l m
+
+-- what a title is read as: characters that stay, letters that a mark joins, and the first bad character, which ends it
+pub data Piece : Type 0 where
+  bad : (c : ℕ) → Piece
+  one : (c : ℕ) → Piece
+  two : (l m : ℕ) → Piece
+
+-- 'A joined letter takes no further mark': a mark that joins nothing starts the next piece, and is bad there
+unfoldable pub pieces : List ℕ → List Piece
+pieces [] = []
+pieces (c ∷ []) = cond (plain c) (one c ∷ []) (bad c ∷ [])
+pieces (c ∷ (m ∷ cs)) =
+    cond (plain c) (cond (eqb (joined c m) 0) (one c ∷ pieces (m ∷ cs)) (two c m ∷ pieces cs)) (bad c ∷ [])
+
+-- the characters that pieces leave
+unfoldable pub outs : List Piece → List ℕ
+outs [] = []
+outs (bad c ∷ ps) = []
+outs (one c ∷ ps) = c ∷ outs ps
+outs (two l m ∷ ps) = joined l m ∷ outs ps
+
+unfoldable pub noneBad : List Piece → Bool
+noneBad [] = true
+noneBad (bad c ∷ ps) = false
+noneBad (one c ∷ ps) = noneBad ps
+noneBad (two l m ∷ ps) = noneBad ps
+
+-- lengths aside: every character of a title is taken; and what it composes to
+unfoldable pub accepts : List ℕ → Bool
+accepts cs = noneBad (pieces cs)
+
+unfoldable pub composed : List ℕ → List ℕ
+composed cs = outs (pieces cs)
+
+-- the composed bytes of a title
+unfoldable pub text : List ℕ → List ℕ
+text title = encodes (composed (decode title))
+
+-- '18 before 19 before 20': what is wrong with a character that is bad
+unfoldable pub fault : ℕ → ℕ
+fault c = cond (eqb c ill) notUtf8 (cond (isMark c) looseMark outsideRepertoire)
+
+-- 'A refusal returns its number and place, with length .. zero'
+abbrev pub refusal : ℕ → ℕ → Composed
+refusal n p = record { number = n; place = p; length = 0 }
+
+abbrev pub acceptance : ℕ → Composed
+acceptance n = record { number = accepted; place = 0; length = n }
+
+-- the answer at pieces that start at byte p, with n bytes composed before: 'the first bad character', placed at its first byte
+unfoldable pub judged : ℕ → ℕ → List Piece → Composed
+judged p n [] = acceptance n
+judged p n (bad c ∷ ps) = refusal (fault c) p
+judged p n (one c ∷ ps) = judged (p + width c) (n + width c) ps
+judged p n (two l m ∷ ps) = judged (p + (width l + width m)) (n + width (joined l m)) ps
+
+-- an answer, and what the buffer holds
+pub record Outcome : Type 0 where
+  pub answer : Composed
+  pub bytes : List ℕ
+
+-- 'A refusal .. writes nothing.'
+abbrev pub refusedWith : Composed → List ℕ → Outcome
+refusedWith r out = record { answer = r; bytes = out }
+
+-- 'An accepted call writes exactly its length; the rest of each buffer stays.'
+abbrev pub acceptedWith : List ℕ → List ℕ → Outcome
+acceptedWith t out = record { answer = acceptance (length t); bytes = t ++ drop (length t) out }
+
+-- 'Composer: 17, then the first bad character, 18 before 19 before 20 there, then 11.'
+unfoldable pub outcome : List ℕ → List ℕ → Outcome
+outcome title out =
+    cond (ltb maxBytes (length title)) (refusedWith (refusal titleLong 0) out)
+    (cond (not (accepts (decode title))) (refusedWith (judged 0 0 (pieces (decode title))) out)
+    (cond (ltb (length out) (length (text title))) (refusedWith (refusal outputShort 0) out)
+    (acceptedWith (text title) out)))
+
+-- what a call says and leaves: the outcome's answer, the outcome's bytes
+pub record Met (title out : List ℕ) (r : Composed) (left : List ℕ) : Type 0 where
+  pub answered : r ≡ outcome title out .answer
+  pub written : left ≡ outcome title out .bytes
+
+-- 'A text value in a slip must already be composed: well-formed, in the repertoire, no mark.'
+unfoldable pub composedText : List ℕ → Bool
+composedText value = allPlain (decode value)

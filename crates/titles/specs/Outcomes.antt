@@ -1,0 +1,106 @@
+-- What the outcome is, test by test, in the order of document 01.
+use mathlib.Core.Path.{_≡_, refl, sym, _∙_, ap}
+use mathlib.Core.Bool.{true, false}
+use mathlib.Core.List.{List, [], _∷_, _++_}
+use Prim.Native.Nat.{ℕ, _+_, _≤_}
+use native.Mathlib.Nat.{add-zero, zero-add}
+use native.Mathlib.Omega.{arith}
+use lib.Dec.{ltb, eqb}
+use lib.ListN.{length, length-append}
+use borrow.Author.Tests.{le-ltb}
+use Rattle.titles.specs.Tests.{either, clash}
+use Rattle.titles.specs.Refusals.{accepted, outputShort, titleLong, maxBytes}
+use Rattle.titles.specs.Utf8.{ill, width, encode, encodes, decode}
+use Rattle.titles.specs.Repertoire.{isMark}
+use Rattle.titles.specs.Decoding.{length-encode}
+use Rattle.titles.specs.declared.Composed.{Composed}
+use Rattle.titles.specs.Compose.{joined, Piece, bad, one, two, pieces, outs, noneBad, accepts, composed, text, fault, judged, acceptance, refusal, refusedWith, acceptedWith, outcome}
+
+-- over the limit
+pub long : (title out : List ℕ) → ltb maxBytes (length title) ≡ true → outcome title out ≡ refusedWith (refusal titleLong 0) out
+unfolding outcome
+long title out over = rw over
+
+-- a bad character
+pub refused :
+    (title : List ℕ) (r : Composed) (out : List ℕ)
+    → ltb maxBytes (length title) ≡ false
+    → accepts (decode title) ≡ false
+    → judged 0 0 (pieces (decode title)) ≡ r
+    → outcome title out ≡ refusedWith r out
+unfolding outcome
+refused title r out fits not-all e = rw (fits, not-all, e)
+
+-- no room
+pub short :
+    (title out : List ℕ)
+    → ltb maxBytes (length title) ≡ false
+    → accepts (decode title) ≡ true
+    → ltb (length out) (length (text title)) ≡ true
+    → outcome title out ≡ refusedWith (refusal outputShort 0) out
+unfolding outcome
+short title out fits all less = rw (fits, all, less)
+
+-- room
+pub taken :
+    (title t out : List ℕ)
+    → ltb maxBytes (length title) ≡ false
+    → accepts (decode title) ≡ true
+    → text title ≡ t
+    → length t ≤ length out
+    → outcome title out ≡ acceptedWith t out
+unfolding outcome
+taken title t out fits all e room = rw (fits, all, e, le-ltb (length out) (length t) room)
+
+lengths : (n c : ℕ) (rest : List ℕ) → (n + width c) + length rest ≡ n + length (encode c ++ rest)
+lengths n c rest = rw (length-append (encode c) rest, length-encode c) (omega arith)
+
+-- a fault is no acceptance
+pub fault-some : (c : ℕ) → fault c ≡ 0 → ⊥
+unfolding fault
+fault-some c =
+    either (eqb c ill) (λ p. rw p (λ e. omega arith)) λ p.
+    rw p (either (isMark c) (λ q. rw q (λ e. omega arith)) λ q. rw q (λ e. omega arith))
+
+-- pieces of which none is bad are accepted, with the length of what they compose to
+judged-taken :
+    (p n : ℕ) (ps : List Piece)
+    → noneBad ps ≡ true
+    → judged p n ps ≡ acceptance (n + length (encodes (outs ps)))
+unfolding judged noneBad outs encodes
+judged-taken p n [] e = ap acceptance (sym (add-zero n))
+judged-taken p n (bad c ∷ ps) e = absurd (clash e refl)
+judged-taken p n (one c ∷ ps) e =
+    judged-taken (p + width c) (n + width c) ps e ∙ ap acceptance (lengths n c (encodes (outs ps)))
+judged-taken p n (two l m ∷ ps) e =
+    judged-taken (p + (width l + width m)) (n + width (joined l m)) ps e
+    ∙ ap acceptance (lengths n (joined l m) (encodes (outs ps)))
+
+judged-refused : (p n : ℕ) (ps : List Piece) → noneBad ps ≡ false → judged p n ps .number ≡ accepted → ⊥
+unfolding judged noneBad
+judged-refused p n [] e z = clash refl e
+judged-refused p n (bad c ∷ ps) e z = fault-some c z
+judged-refused p n (one c ∷ ps) e z = judged-refused (p + width c) (n + width c) ps e z
+judged-refused p n (two l m ∷ ps) e z = judged-refused (p + (width l + width m)) (n + width (joined l m)) ps e z
+
+judged-length : (p n : ℕ) (ps : List Piece) → noneBad ps ≡ false → judged p n ps .length ≡ 0
+unfolding judged noneBad
+judged-length p n [] e = absurd (clash refl e)
+judged-length p n (bad c ∷ ps) e = refl
+judged-length p n (one c ∷ ps) e = judged-length (p + width c) (n + width c) ps e
+judged-length p n (two l m ∷ ps) e = judged-length (p + (width l + width m)) (n + width (joined l m)) ps e
+
+-- a bad character's refusal has length 0
+pub refused-length : (title : List ℕ) → accepts (decode title) ≡ false → judged 0 0 (pieces (decode title)) .length ≡ 0
+unfolding accepts
+refused-length title e = judged-length 0 0 (pieces (decode title)) e
+
+-- all characters are taken exactly where the answer, room aside, is no refusal
+pub judged-accepts : (title : List ℕ) → judged 0 0 (pieces (decode title)) .number ≡ accepted → accepts (decode title) ≡ true
+unfolding accepts
+judged-accepts title z =
+    either (noneBad (pieces (decode title))) (λ e. e) (λ e. absurd (judged-refused 0 0 (pieces (decode title)) e z))
+
+pub accepts-judged : (title : List ℕ) → accepts (decode title) ≡ true → judged 0 0 (pieces (decode title)) ≡ acceptance (length (text title))
+unfolding accepts text composed
+accepts-judged title e = judged-taken 0 0 (pieces (decode title)) e ∙ ap acceptance (zero-add (length (text title)))

@@ -1,0 +1,93 @@
+// One pass over a title: each piece is tested and composed.
+use crate::Composed;
+use crate::Refusal;
+use crate::pairs;
+use crate::repertoire;
+use crate::utf8;
+ghost use mathlib.Core.Path.{_≡_};
+ghost use Prim.Native.Nat.{_≤_};
+ghost use mathlib.Core.List.{_++_};
+ghost use lib.ListN.{length, take, drop};
+ghost use Rattle.titles.specs.Utf8.{front};
+ghost use Rattle.titles.specs.Pairs.{flat, pairs};
+ghost use Rattle.titles.specs.Compose.{joined, fault, refusal};
+ghost use Rattle.titles.specs.Scan.{Scanned};
+
+pub fn refused(number: u32, place: usize) -> Composed
+    ensures { λ r. ⌜ r ≡ refusal number place ⌝ }
+{
+    Composed {
+        number,
+        place,
+        length: 0,
+    }
+}
+
+// What is wrong with a character that no piece starts with.
+fn fault_of(c: u32) -> u32
+    ensures { λ r. ⌜ r ≡ fault c ⌝ }
+{
+    if c == utf8::ILL {
+        return Refusal::NOT_UTF8;
+    }
+    if repertoire::is_mark(c) {
+        return Refusal::LOOSE_MARK;
+    }
+    Refusal::OUTSIDE_REPERTOIRE
+}
+
+// The letter that `letter` makes with a mark at `at`, or NONE. Every mark's first byte is CC.
+fn joined_at(title: &[u8], at: usize, letter: u32, table: &[u16]) -> u32
+    requires { ⌜ now table ≡ flat pairs ⌝ }
+    ensures { λ r. ⌜ r ≡ joined letter (front (drop at (now (title .entry)))) ⌝ }
+{
+    if title.len() <= at {
+        return pairs::NONE;
+    }
+    if title[at] != 0xCC {
+        return pairs::NONE;
+    }
+    let mark = utf8::first(title, at);
+    pairs::composite(table, letter, mark)
+}
+
+// Composes a title into `room`, up to the first bad character.
+pub fn scan(title: &[u8], room: &mut [u8], table: &[u16]) -> Composed
+    requires { ⌜ (now table ≡ flat pairs) × (length (now title) ≤ length (now room)) ⌝ }
+    ensures { λ r. ⌜ Scanned (now (title .entry)) r (now (room .exit)) ⌝ }
+{
+    let mut at = 0;
+    let mut n = 0;
+    while at < title.len() {
+        let c = utf8::first(title, at);
+        if !repertoire::is_plain(c) {
+            return refused(fault_of(c), at);
+        }
+        let next = at + utf8::width(c);
+        let whole = joined_at(title, next, c, table);
+        if whole == pairs::NONE {
+            n = utf8::put(room, n, c);
+            at = next;
+        } else {
+            n = utf8::put(room, n, whole);
+            at = next + 2;
+        }
+    }
+    Composed {
+        number: Refusal::NONE,
+        place: 0,
+        length: n,
+    }
+}
+
+// Copies the first `n` bytes of `text` to the front of `out`.
+pub fn copy(text: &[u8], n: usize, out: &mut [u8])
+    requires { ⌜ (n ≤ length (now text)) × (n ≤ length (now out)) ⌝ }
+    ensures { λ _. ⌜ now (out .exit) ≡ take n (now (text .entry)) ++ drop n (now (out .entry)) ⌝ }
+{
+    let mut i = 0;
+    while i < n {
+        out[i] = text[i];
+        i += 1;
+    }
+}
