@@ -2,4 +2,5 @@
 pub mod Limits
 pub mod Refusals
 pub mod Tables
+pub mod TablesLaws
 pub mod Records

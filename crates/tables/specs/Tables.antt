@@ -3,8 +3,8 @@ use Prim.Native.Nat.{ℕ, zero, suc, _+_}
 use mathlib.Core.Bool.{Bool, cond, _&&_, _||_}
 use mathlib.Core.List.{List, [], _∷_}
 use lib.Dec.{leb, eqb}
-use lib.ListN.{take, drop}
-use Rattle.trees.specs.Rules.{maxType, maxValue, maxChildren, labelBytes}
+use lib.ListN.{length, take, drop}
+use Rattle.trees.specs.Rules.{maxType, maxValue, maxChildren, labelBytes, maxNodes}
 use Rattle.trees.specs.Rows.{Entry, node, tip}
 
 -- a row as an entry: one that names children is an internal node, any other a leaf with its part of the area
@@ -46,3 +46,24 @@ firstBad i (t ∷ ts) (c ∷ cs) (l ∷ ls) = cond (rowFits t c l) (firstBad (i 
 unfoldable pub sum : List ℕ → ℕ
 sum [] = 0
 sum (l ∷ ls) = l + sum ls
+
+-- the three columns and the area
+pub record Table : Type 0 where
+  pub types : List ℕ
+  pub counts : List ℕ
+  pub lengths : List ℕ
+  pub values : List ℕ
+
+abbrev pub table : List ℕ → List ℕ → List ℕ → List ℕ → Table
+table ts cs ls vs = record { types = ts; counts = cs; lengths = ls; values = vs }
+
+-- none of "columns unequal or over 1,023 rows"
+unfoldable pub columnsFit : List ℕ → List ℕ → List ℕ → Bool
+columnsFit ts cs ls = eqb (length cs) (length ts) && eqb (length ls) (length ts) && leb (length ts) maxNodes
+
+-- what number 16 would not refuse: columns that fit, each row of the form, and a values area of "the sum of lengths"
+unfoldable pub tableFits : Table → Bool
+tableFits t =
+    columnsFit (t .types) (t .counts) (t .lengths)
+    && eqb (firstBad 0 (t .types) (t .counts) (t .lengths)) (length (t .types))
+    && eqb (length (t .values)) (sum (t .lengths))

@@ -3,8 +3,9 @@ use crate::limits::Slip;
 ghost use mathlib.Core.Path.{_≡_};
 ghost use Prim.Native.Nat.{_≤_, _<_};
 ghost use lib.ListN.{length, getD};
+ghost use Rattle.trees.specs.Rules.{maxNodes};
 ghost use Rattle.tables.specs.Tables as Tables;
-ghost use Rattle.tables.specs.Tables.{rowFits, firstBad};
+ghost use Rattle.tables.specs.Tables.{rowFits, firstBad, columnsFit, tableFits, table};
 
 // A cell as a number.
 pub fn cell(column: &[u16], i: usize) -> usize
@@ -52,7 +53,7 @@ pub fn first_bad(types: &[u16], counts: &[u16], lengths: &[u16]) -> usize
 }
 
 pub fn sum(lengths: &[u16]) -> usize
-    requires { ⌜ length (now lengths) ≤ 1023 ⌝ }
+    requires { ⌜ length (now lengths) ≤ maxNodes ⌝ }
     ensures { λ r. ⌜ r ≡ Tables.sum (now (lengths .entry)) ⌝ }
 {
     let mut total = 0;
@@ -62,4 +63,30 @@ pub fn sum(lengths: &[u16]) -> usize
         i += 1;
     }
     total
+}
+
+// Whether the columns have one row each for at most as many nodes as a slip has.
+pub fn columns_fit(types: &[u16], counts: &[u16], lengths: &[u16]) -> bool
+    ensures { λ r. ⌜ r ≡ columnsFit (now (types .entry)) (now (counts .entry)) (now (lengths .entry)) ⌝ }
+{
+    if counts.len() != types.len() {
+        return false;
+    }
+    if lengths.len() != types.len() {
+        return false;
+    }
+    types.len() <= Slip::MAX_NODES
+}
+
+// Whether the table has the form: number 16 would not refuse it.
+pub fn table_fits(types: &[u16], counts: &[u16], lengths: &[u16], values: &[u8]) -> bool
+    ensures { λ r. ⌜ r ≡ tableFits (table (now (types .entry)) (now (counts .entry)) (now (lengths .entry)) (now (values .entry))) ⌝ }
+{
+    if !columns_fit(types, counts, lengths) {
+        return false;
+    }
+    if first_bad(types, counts, lengths) != types.len() {
+        return false;
+    }
+    values.len() == sum(lengths)
 }

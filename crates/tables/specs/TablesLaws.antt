@@ -1,0 +1,120 @@
+-- What the tests of a table's form tell, and where a row's value lies.
+use Prim.Native.Nat.{ℕ, zero, suc, _+_, _≤_, _<_}
+use mathlib.Core.Path.{_≡_, refl, _∙_}
+use mathlib.Core.Bool.{Bool, true, false, _&&_, _||_}
+use mathlib.Core.List.{List, [], _∷_}
+use native.Mathlib.Omega.{arith}
+use lib.Dec.{leb, eqb}
+use lib.ListN.{length, getD, take, drop}
+use lib.Seq.{drop-drop}
+use borrow.Author.Tests.{eqb-true, leb-true}
+use Rattle.trees.specs.Rules.{maxType, maxValue, maxChildren, labelBytes, maxNodes}
+use Rattle.trees.specs.Rows.{Entry}
+use Rattle.trees.specs.Tests.{and-left, and-right, or-cases}
+use Rattle.tables.specs.Tables.{Table, columnsFit, tableFits, internalRow, danglingRow, pairRow, rowFits, firstBad, sum, entries, entryOf}
+
+-- columns that fit
+pub record Columns (ts cs ls : List ℕ) : Type 0 where
+  pub counted : length cs ≡ length ts
+  pub measured : length ls ≡ length ts
+  pub few : length ts ≤ maxNodes
+
+pub columns-told : (ts cs ls : List ℕ) → columnsFit ts cs ls ≡ true → Columns ts cs ls
+unfolding columnsFit
+columns-told ts cs ls e =
+    let a = eqb (length cs) (length ts) in
+    let b = eqb (length ls) (length ts) in
+    let d = leb (length ts) maxNodes in
+    let f = and-left (a && b) d e in
+    record {
+      counted = eqb-true _ _ (and-left a b f);
+      measured = eqb-true _ _ (and-right a b f);
+      few = leb-true _ _ (and-right (a && b) d e);
+    }
+
+-- a table of the form
+pub record Formed (t : Table) : Type 0 where
+  pub columns : Columns (t .types) (t .counts) (t .lengths)
+  pub rows : firstBad 0 (t .types) (t .counts) (t .lengths) ≡ length (t .types)
+  pub area : length (t .values) ≡ sum (t .lengths)
+
+pub table-told : (t : Table) → tableFits t ≡ true → Formed t
+unfolding tableFits
+table-told t e =
+    let a = columnsFit (t .types) (t .counts) (t .lengths) in
+    let b = eqb (firstBad 0 (t .types) (t .counts) (t .lengths)) (length (t .types)) in
+    let d = eqb (length (t .values)) (sum (t .lengths)) in
+    let f = and-left (a && b) d e in
+    record {
+      columns = columns-told _ _ _ (and-left a b f);
+      rows = eqb-true _ _ (and-right a b f);
+      area = eqb-true _ _ (and-right (a && b) d e);
+    }
+
+-- a row of the form has type 0 or is a pair
+pub fits-cases {ℓ} : {C : Type ℓ} (t c l : ℕ) → rowFits t c l ≡ true → (t ≡ 0 → C) → (t ≤ maxType → c ≡ 0 → C) → C
+unfolding rowFits
+fits-cases t c l e f g =
+    or-cases (internalRow t c l || danglingRow t c l) (pairRow t c l) e
+    (λ h. or-cases (internalRow t c l) (danglingRow t c l) h
+    (λ i. f (eqb-true t 0 (and-left _ (eqb l 0) (and-left _ (leb 1 c) (and-left _ (leb c maxChildren) i)))))
+    (λ d. f (eqb-true t 0 (and-left _ (eqb c 0) (and-left _ (eqb l labelBytes) d)))))
+    (λ p. let q = and-left _ (leb l maxValue) p in
+    g (leb-true t maxType (and-right (leb 1 t) _ (and-left _ (eqb c 0) q))) (eqb-true c 0 (and-right (leb 1 t && leb t maxType) _ q)))
+
+-- where no row is bad, the first is of the form, and none behind it is bad
+rows-head :
+    (i t c l : ℕ) (ts cs ls : List ℕ)
+    → firstBad i (t ∷ ts) (c ∷ cs) (l ∷ ls) ≡ i + length (t ∷ ts)
+    → (rowFits t c l ≡ true) × (firstBad (i + 1) ts cs ls ≡ i + 1 + length ts)
+unfolding firstBad
+rows-head i t c l ts cs ls e = go (rowFits t c l) refl
+  where
+    go : (b : Bool) → rowFits t c l ≡ b → (rowFits t c l ≡ true) × (firstBad (i + 1) ts cs ls ≡ i + 1 + length ts)
+    go false f = absurd (omega (arith, rw f at e))
+    go true f = (f, omega (arith, rw f at e))
+
+-- where no row is bad, each row is of the form
+rows-fit :
+    (i : ℕ) (ts cs ls : List ℕ)
+    → firstBad i ts cs ls ≡ i + length ts
+    → (j : ℕ)
+    → j < length ts
+    → rowFits (getD ts j 0) (getD cs j 0) (getD ls j 0) ≡ true
+unfolding firstBad
+rows-fit i [] cs ls e j h = absurd (omega arith)
+rows-fit i (t ∷ ts) [] ls e j h = absurd (omega arith)
+rows-fit i (t ∷ ts) (c ∷ cs) [] e j h = absurd (omega arith)
+rows-fit i (t ∷ ts) (c ∷ cs) (l ∷ ls) e zero h = rows-head i t c l ts cs ls e .0
+rows-fit i (t ∷ ts) (c ∷ cs) (l ∷ ls) e (suc j) h = rows-fit (i + 1) ts cs ls (rows-head i t c l ts cs ls e .1) j (omega arith)
+
+pub formed-row :
+    (t : Table)
+    → Formed t
+    → (j : ℕ)
+    → j < length (t .types)
+    → rowFits (getD (t .types) j 0) (getD (t .counts) j 0) (getD (t .lengths) j 0) ≡ true
+formed-row t f = rows-fit 0 (t .types) (t .counts) (t .lengths) (omega (arith, f .rows))
+
+-- a row's value lies within the sum of lengths
+pub sum-part : (ls : List ℕ) (j : ℕ) → j < length ls → sum (take j ls) + getD ls j 0 ≤ sum ls
+unfolding sum
+sum-part [] j h = absurd (omega arith)
+sum-part (l ∷ ls) zero h = omega arith
+sum-part (l ∷ ls) (suc j) h = omega (arith, sum-part ls j (omega arith))
+
+-- the entry of a row: its part of the area begins at the sum of the lengths before it
+pub entries-at :
+    (ts cs ls vs : List ℕ)
+    → Columns ts cs ls
+    → (j : ℕ) (d : Entry)
+    → j < length ts
+    → getD (entries ts cs ls vs) j d ≡ entryOf (getD ts j 0) (getD cs j 0) (take (getD ls j 0) (drop (sum (take j ls)) vs))
+unfolding sum
+entries-at [] cs ls vs f j d h = absurd (omega arith)
+entries-at (t ∷ ts) [] ls vs f j d h = absurd (omega (arith, f .counted))
+entries-at (t ∷ ts) (c ∷ cs) [] vs f j d h = absurd (omega (arith, f .measured))
+entries-at (t ∷ ts) (c ∷ cs) (l ∷ ls) vs f zero d h = refl
+entries-at (t ∷ ts) (c ∷ cs) (l ∷ ls) vs f (suc j) d h =
+    entries-at ts cs ls (drop l vs) (record { counted = omega (arith, f .counted); measured = omega (arith, f .measured); few = omega (arith, f .few) }) j d (omega arith)
+    ∙ rw (drop-drop (sum (take j ls)) l vs)
