@@ -4,7 +4,7 @@ use mathlib.Core.Path.{_≡_, sym, ap, _∙_}
 use mathlib.Core.List.{List, [], _∷_}
 use native.Mathlib.Numerals.{add-one}
 use native.Mathlib.Omega.{arith}
-use lib.ListN.{length, take, drop, getD, set}
+use lib.ListN.{length, take, drop, getD, set, length-set}
 use lib.Seq.{getD-take}
 use Rattle.sha2.specs.Words.{number, words}
 use Rattle.sha2.specs.Compression.{following, schedule, round, rounds}
@@ -52,51 +52,67 @@ following-take w t h =
       getD-take t w (t - 16) 0 (omega arith),
     )
 
+-- w begins with the first t words of the schedule of the block's words m
+abbrev pub Begins : List ℕ → ℕ → List ℕ → Type 0
+Begins m t w = (16 ≤ t) × (length w ≡ 64) × (take t w ≡ schedule sha256 (t - 16) m)
+
+-- one word more
 pub schedule-more :
-    (m w : List ℕ) (n x : ℕ)
-    → 16 + n < length w
-    → take (16 + n) w ≡ schedule sha256 n m
-    → x ≡ following sha256 w (16 + n)
-    → take (16 + (n + 1)) (set w (16 + n) x) ≡ schedule sha256 (n + 1) m
+    (m : List ℕ) (t after : ℕ) (w u : List ℕ)
+    → t < 64
+    → after ≡ suc t
+    → Begins m t w
+    → u ≡ set w t (following sha256 w t)
+    → Begins m after u
 unfolding schedule
-schedule-more m w n x h p e =
-    let same : x ≡ following sha256 (schedule sha256 n m) (16 + n) =
-    e ∙ following-take w (16 + n) (omega arith) ∙ ap (λ (l : List ℕ). following sha256 l (16 + n)) p in
-    filled w (16 + n) (16 + (n + 1)) x h (omega arith) p ∙ rw (add-one, ← same)
+schedule-more m t after w u few e (from, room, p) q =
+    let n : after - 16 ≡ suc (t - 16) = omega arith in
+    let at : 16 + (t - 16) ≡ t = omega arith in
+    let same : following sha256 w t ≡ following sha256 (schedule sha256 (t - 16) m) t =
+    following-take w t from ∙ ap (λ (l : List ℕ). following sha256 l t) p in (
+      omega arith,
+      ap length q ∙ simp length-set room,
+      rw (q, n, at, ← same) (filled w t after (following sha256 w t) (omega arith) e p),
+    )
 
 -- one round more, with the constants as the code has them
-rounds-more :
-    (h w : List ℕ) {k v u : List ℕ} (n next : ℕ)
+pub rounds-more :
+    (h w : List ℕ) {k : List ℕ}
     → k ≡ constants
-    → next ≡ suc n
-    → v ≡ rounds sha256 n h w
-    → u ≡ round sha256 v (getD k n 0) (getD w n 0)
-    → u ≡ rounds sha256 next h w
+    → (t after : ℕ) (v u : List ℕ)
+    → t < 64
+    → after ≡ suc t
+    → v ≡ rounds sha256 t h w
+    → u ≡ round sha256 v (getD k t 0) (getD w t 0)
+    → u ≡ rounds sha256 after h w
 unfolding rounds
-rounds-more h w n next c e p q = rw (e, q, p, c)
+rounds-more h w c t after v u few e p q = rw (e, q, p, c)
 
-pub rounds-eight :
-    (h w : List ℕ) {k v v1 v2 v3 v4 v5 v6 v7 v8 : List ℕ} (i t : ℕ)
-    → t ≡ 8 * i
-    → k ≡ constants
-    → v ≡ rounds sha256 (8 * i) h w
-    → v1 ≡ round sha256 v (getD k t 0) (getD w t 0)
-    → v2 ≡ round sha256 v1 (getD k (t + 1) 0) (getD w (t + 1) 0)
-    → v3 ≡ round sha256 v2 (getD k (t + 2) 0) (getD w (t + 2) 0)
-    → v4 ≡ round sha256 v3 (getD k (t + 3) 0) (getD w (t + 3) 0)
-    → v5 ≡ round sha256 v4 (getD k (t + 4) 0) (getD w (t + 4) 0)
-    → v6 ≡ round sha256 v5 (getD k (t + 5) 0) (getD w (t + 5) 0)
-    → v7 ≡ round sha256 v6 (getD k (t + 6) 0) (getD w (t + 6) 0)
-    → v8 ≡ round sha256 v7 (getD k (t + 7) 0) (getD w (t + 7) 0)
-    → v8 ≡ rounds sha256 (8 * (i + 1)) h w
-rounds-eight h w i t e c p q1 q2 q3 q4 q5 q6 q7 q8 =
-    rounds-more h w (t + 7) (8 * (i + 1)) c (omega arith)
-    (rounds-more h w (t + 6) (t + 7) c (omega arith)
-    (rounds-more h w (t + 5) (t + 6) c (omega arith)
-    (rounds-more h w (t + 4) (t + 5) c (omega arith)
-    (rounds-more h w (t + 3) (t + 4) c (omega arith)
-    (rounds-more h w (t + 2) (t + 3) c (omega arith)
-    (rounds-more h w (t + 1) (t + 2) c (omega arith) (rounds-more h w t (t + 1) c (omega arith) (rw e p) q1) q2)
+-- What each step keeps, a turn of eight keeps: the schedule and the rounds go eight a turn.
+pub eight :
+    {Kept : ℕ → List ℕ → Type 0} {step : ℕ → List ℕ → List ℕ}
+    → ((t after : ℕ) (v u : List ℕ) → t < 64 → after ≡ suc t → Kept t v → u ≡ step t v → Kept after u)
+    → {v v1 v2 v3 v4 v5 v6 v7 v8 : List ℕ} (turn : ℕ)
+    → turn < 8
+    → Kept (8 * turn) v
+    → v1 ≡ step (8 * turn) v
+    → v2 ≡ step (8 * turn + 1) v1
+    → v3 ≡ step (8 * turn + 2) v2
+    → v4 ≡ step (8 * turn + 3) v3
+    → v5 ≡ step (8 * turn + 4) v4
+    → v6 ≡ step (8 * turn + 5) v5
+    → v7 ≡ step (8 * turn + 6) v6
+    → v8 ≡ step (8 * turn + 7) v7
+    → Kept (8 * (turn + 1)) v8
+eight more turn few p q1 q2 q3 q4 q5 q6 q7 q8 =
+    let t : ℕ = 8 * turn in
+    more (t + 7) (8 * (turn + 1)) _ _ (omega arith) (omega arith)
+    (more (t + 6) (t + 7) _ _ (omega arith) (omega arith)
+    (more (t + 5) (t + 6) _ _ (omega arith) (omega arith)
+    (more (t + 4) (t + 5) _ _ (omega arith) (omega arith)
+    (more (t + 3) (t + 4) _ _ (omega arith) (omega arith)
+    (more (t + 2) (t + 3) _ _ (omega arith) (omega arith)
+    (more (t + 1) (t + 2) _ _ (omega arith) (omega arith) (more t (t + 1) _ _ (omega arith) (omega arith) p q1) q2)
     q3)
     q4)
     q5)

@@ -2,8 +2,8 @@
 use crate::words;
 use std::num::wrapping_add_u32;
 ghost use mathlib.Core.Path.{_≡_};
-ghost use Prim.Native.Nat.{_+_, _*_, _≤_};
-ghost use lib.ListN.{length, take};
+ghost use Prim.Native.Nat.{_+_, _*_, _≤_, _<_};
+ghost use lib.ListN.{length, take, set};
 ghost use Rattle.sha2.specs.Words as Words;
 ghost use Rattle.sha2.specs.Compression as Compression;
 ghost use Rattle.sha2.specs.Compression.{rounds, following, scheduled};
@@ -98,26 +98,34 @@ fn loaded(block: &[u8]) -> [u32; 64]
     w
 }
 
-// The word at t of the schedule, from those before it.
-fn next(w: &[u32], t: usize) -> u32
-    requires { ⌜ (16 ≤ t) × (t ≤ length (now w)) ⌝ }
-    ensures { λ r. ⌜ r ≡ following sha256 (now (w .entry)) t ⌝ }
+// Lays down the word at t of the schedule, from those before it.
+fn lay(w: &mut [u32; 64], t: usize)
+    requires { ⌜ (16 ≤ t) × (t < 64) ⌝ }
+    ensures { λ r. ⌜ now (w .exit) ≡ set (now (w .entry)) t (following sha256 (now (w .entry)) t) ⌝ }
 {
     let near = wrapping_add_u32(words::sigma1(w[t - 2]), w[t - 7]);
     let far = wrapping_add_u32(near, words::sigma0(w[t - 15]));
-    wrapping_add_u32(far, w[t - 16])
+    w[t] = wrapping_add_u32(far, w[t - 16]);
 }
 
+// All 64 words, eight a turn: a word is then still in a register where the next ones read it.
 fn schedule(block: &[u8]) -> [u32; 64]
     requires { ⌜ length (now block) ≡ 64 ⌝ }
     ensures { λ r. ⌜ r ≡ scheduled sha256 (now (block .entry)) ⌝ }
 {
     let mut w = loaded(block);
-    let mut n = 0;
-    while n < 48 {
-        let t = 16 + n;
-        w[t] = next(&w, t);
-        n += 1;
+    let mut turn = 2;
+    while turn < 8 {
+        let t = 8 * turn;
+        lay(&mut w, t);
+        lay(&mut w, t + 1);
+        lay(&mut w, t + 2);
+        lay(&mut w, t + 3);
+        lay(&mut w, t + 4);
+        lay(&mut w, t + 5);
+        lay(&mut w, t + 6);
+        lay(&mut w, t + 7);
+        turn += 1;
     }
     w
 }

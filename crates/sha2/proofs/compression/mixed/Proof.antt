@@ -1,9 +1,9 @@
-use Prim.Native.Nat.{_*_, _-_, _≤_}
+use Prim.Native.Nat.{_*_, _-_, _≤_, _<_}
 use mathlib.Core.Path.{_≡_, refl}
 use native.Mathlib.Omega.{arith}
 use Rattle.sha2.specs.Compression.{rounds}
 use Rattle.sha2.specs.Sha256.{sha256}
-use Rattle.sha2.proofs.Rounds.{rounds-eight}
+use Rattle.sha2.proofs.Rounds.{rounds-more, eight}
 use borrow.Author.Needs.{needs}
 use Rattle.sha2.proofs.compression.mixed.Statement.{statement}
 use Rattle.sha2.proofs.compression.mixed.Tie as tie
@@ -20,9 +20,10 @@ loop-holds c = (search needs, refl)
 
 loop-again : tie.Need-loop-again Inv-loop μ-loop
 loop-again c =
-    let l = c .before .before .before .before .before .before .before .before .before .before .before .before .before .before .before .before .before .loop in (
+    let at = c .before .before .before .before .before .before .before .before .before .before .before .before .before .before .before .before .before in
+    let few : at .loop .turn < 8 = omega arith in (
       search needs,
-      rounds-eight _ _ (l .turn) (8 * l .turn) refl (c .before .before .before .before .before .before .before .before .before .before .before .before .before .before .before .before .before .before .pre) (l .inv .1)
+      eight (rounds-more _ _ (at .before .pre)) (at .loop .turn) few (at .loop .inv .1)
           (c .before .before .before .before .before .before .before .before .before .before .before .before .before .before .round .ensures)
           (c .before .before .before .before .before .before .before .before .before .before .before .before .round2 .ensures)
           (c .before .before .before .before .before .before .before .before .before .before .round3 .ensures)

@@ -1,0 +1,8 @@
+-- Bytes as bits, "packed with the most significant bit first".
+pub mod Lists
+pub mod Bits
+pub mod FieldLaws
+pub mod ByteLaws
+pub mod Reads
+pub mod Ink
+pub mod InkLaws

@@ -1,0 +1,31 @@
+-- What the writer asks and gives.
+use mathlib.Core.Path.{_≡_}
+use mathlib.Core.List.{List, _++_}
+use Prim.Native.Nat.{ℕ, _≤_, _<_, _^_}
+use lib.ListN.{length, drop}
+use Rattle.trees.specs.Rules.{maxNodes}
+use Rattle.tables.specs.Tables.{entries, firstBad, sum}
+use Rattle.codec.specs.Writing.{slipOf}
+use Rattle.codec.specs.Measure.{tableBits}
+
+-- columns of one length, of no more rows than a slip has
+pub record Columns (types counts lengths : List ℕ) : Type 0 where
+  pub sameCounts : length counts ≡ length types
+  pub sameLengths : length lengths ≡ length types
+  pub few : length types ≤ maxNodes
+
+pub record Measured (types counts lengths : List ℕ) (r : ℕ) : Type 0 where
+  pub bits : r ≡ tableBits types counts lengths
+  pub small : r < 2 ^ 30
+
+-- a table whose rows are all of the form, with its values and room for its slip
+pub record WriteAsks (types counts lengths values out : List ℕ) : Type 0 where
+  pub columns : Columns types counts lengths
+  pub form : firstBad 0 types counts lengths ≡ length types
+  pub filled : sum lengths ≤ length values
+  pub room : length (slipOf (entries types counts lengths values)) ≤ length out
+
+-- the slip's r bytes, and nothing behind them is touched
+pub record WriteGives (types counts lengths values out : List ℕ) (r : ℕ) (out′ : List ℕ) : Type 0 where
+  pub bytes : out′ ≡ slipOf (entries types counts lengths values) ++ drop r out
+  pub size : r ≡ length (slipOf (entries types counts lengths values))

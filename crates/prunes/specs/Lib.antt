@@ -1,0 +1,18 @@
+-- Pruning a table by entry numbers. Definitions, in reading order:
+pub mod Contracts
+pub mod Marks
+pub mod Picked
+pub mod Steps
+-- The definitions on a small tree, computed:
+pub mod Examples
+-- Theorems:
+pub mod ListRule
+pub mod PrunedLaws
+pub mod Width
+-- The laws behind them:
+pub mod MarksLaws
+pub mod PickedLaws
+pub mod PickedTrees
+pub mod TableLaws
+-- Laws of plain lists:
+pub mod Lists

@@ -1,0 +1,4 @@
+-- Laws that the functions' proofs cite.
+pub mod Settling
+pub mod Copying
+pub mod Opened

@@ -1,0 +1,76 @@
+-- What was read and what the engine tells of it, put together.
+use Prim.Native.Nat.{ℕ, _≤_}
+use mathlib.Core.List.{List}
+use mathlib.Core.Path.{_≡_, sym, ap, _∙_, subst, subst₂}
+use lib.ListN.{length, take, drop}
+use lib.Seq.{length-take-le}
+use Rattle.bits.specs.Bits.{bitsOf}
+use Rattle.trees.specs.Rows.{Entry, verdict}
+use Rattle.tables.specs.Tables.{Table, table, entries}
+use Rattle.codec.specs.Reading.{Reading, readAll}
+use Rattle.codec.specs.Reader.{headBits, FillGives}
+use Rattle.codec.specs.declared.fill.Filled.{Filled}
+use Rattle.engine.specs.Engine.{told, Labelled}
+use Rattle.engine.specs.Judging.{Judges}
+use Rattle.engine.specs.declared.judge.Judged.{Judged}
+use Rattle.sha2.specs.Sha256 as Sha256
+use Rattle.titles.specs.Compose.{composedText}
+use Rattle.slips.specs.declared.answer.Answer.{Answer}
+use Rattle.slips.specs.Check.{countOf, readingOf, bodyOf}
+use Rattle.slips.specs.declared.open.Opened.{Opened}
+use Rattle.slips.specs.Opening.{settledBy, Opens}
+use Rattle.slips.specs.Unpack.{tableOf, handedOf, Leaves}
+use Rattle.slips.specs.ColumnsLaws.{table-back}
+use Rattle.slips.specs.Verdicts.{settled-told}
+
+module _ (s : List ℕ) (n : ℕ) (counted : n ≡ countOf s) {r : Filled} {types counts lengths values : List ℕ}
+    (f : FillGives s n (readAll n (drop headBits (bitsOf s))) r types counts lengths values)
+    {j : Judged} {labels : List ℕ}
+    (g : Judges (take (r .rows) types) (take (r .rows) counts) (take (r .rows) lengths) (take (r .used) values) j labels)
+  where
+    reading : readAll n (drop headBits (bitsOf s)) ≡ readingOf s
+    reading = ap (λ (m : ℕ). readAll m (drop headBits (bitsOf s))) counted
+
+    rows-are : entries (take (r .rows) types) (take (r .rows) counts) (take (r .rows) lengths) (take (r .used) values) ≡ readingOf s .rows
+    rows-are = f .rows ∙ ap (λ (x : Reading). x .rows) reading
+
+    told-as : j ≡ told (verdict Sha256.label composedText (readingOf s .rows))
+    told-as = g .answer ∙ ap (λ (es : List Entry). told (verdict Sha256.label composedText es)) rows-are
+
+    pub opened : {a : Answer} → a ≡ settledBy (length s) (r .rows) (r .whole) (drop (r .at) (bitsOf s)) j
+        → Opens s (record { answer = a; rows = r .rows; used = r .used }) types counts lengths values labels
+    unfolding bodyOf
+    opened e =
+        let count : r .rows ≡ length (readingOf s .rows) = f .count ∙ ap (λ (x : Reading). length (x .rows)) reading in
+        let whole = f .whole ∙ ap (λ (x : Reading). x .whole) reading in
+        let rest = f .rest ∙ ap (λ (x : Reading). x .rest) reading in
+        record {
+          answer = e ∙ rw (count, whole, rest, told-as) (settled-told Sha256.label composedText (length s) (readingOf s) (readingOf s .rows));
+          count = count;
+          rows = rows-are;
+          formed = f .form;
+          used = f .used;
+          few = rw counted at (f .few);
+          room = f .room;
+          labelled = subst (λ (es : List Entry). Labelled Sha256.label composedText es (take (r .rows) counts) labels) rows-are (g .labelled);
+        }
+
+-- the table opened is that of the rows read
+pub opened-table : {s : List ℕ} {r : Opened} {types counts lengths values labels : List ℕ} → Opens s r types counts lengths values labels
+    → r .rows ≤ length types → r .rows ≤ length counts → r .rows ≤ length lengths
+    → table (take (r .rows) types) (take (r .rows) counts) (take (r .rows) lengths) (take (r .used) values) ≡ tableOf (readingOf s .rows)
+opened-table {s} {r} {types} {counts} {lengths} {values} o a b c =
+    let ts = length-take-le (r .rows) types a in
+    let cs = length-take-le (r .rows) counts b in
+    let ls = length-take-le (r .rows) lengths c in
+    let vs = length-take-le (r .used) values (o .room) in
+    sym
+    (table-back (take (r .rows) types) (take (r .rows) counts) (take (r .rows) lengths) (take (r .used) values)
+    (cs ∙ sym ts) (ls ∙ sym ts) (o .formed ∙ sym ts) (vs ∙ o .used))
+    ∙ ap tableOf (o .rows)
+
+-- the same answer and the same table are handed out alike
+pub handed-as : {a a′ r : Answer} {t t′ : Table} (b : Table) {types counts lengths values : List ℕ} → a ≡ a′ → t ≡ t′
+    → Leaves (handedOf a t b) r types counts lengths values → Leaves (handedOf a′ t′ b) r types counts lengths values
+handed-as {r = r} b {types} {counts} {lengths} {values} e f l =
+    subst₂ (λ (x : Answer) (y : Table). Leaves (handedOf x y b) r types counts lengths values) e f l

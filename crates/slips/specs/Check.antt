@@ -1,0 +1,60 @@
+-- What the check answers: "Slip: 1, 2 for the header, 3, 4; then each entry in turn: 2, 5, 6, 7 at its internal node, 8 at its leaf; then 9, 10."
+use Prim.Native.Nat.{ℕ, _+_, _*_}
+use mathlib.Core.Bool.{Bool, not, cond, _&&_}
+use mathlib.Core.List.{List}
+use lib.Dec.{ltb, eqb}
+use lib.ListN.{length, take, drop}
+use Rattle.bits.specs.Bits.{bitsOf, numOf}
+use Rattle.trees.specs.Rules.{maxBytes}
+use Rattle.trees.specs.Rows.{Verdict, faulty, left, verdict}
+use Rattle.tables.specs.Limits.{edition, editionBits, countBits}
+use Rattle.tables.specs.Refusals.{accepted, tooLong, cutShort, otherEdition, noNodes, notOneTree, badPadding}
+use Rattle.codec.specs.Reading.{Reading, readAll}
+use Rattle.engine.specs.Engine.{oneTree, rootLabel}
+use Rattle.slips.specs.declared.answer.Answer.{Answer}
+use Rattle.slips.specs.declared.header.Header.{Header}
+use Rattle.slips.specs.Answers.{refused, taken}
+
+-- "Edition, 6 bits .. Node count, 10 bits"
+abbrev pub headerBits : ℕ
+headerBits = editionBits + countBits
+
+abbrev pub editionOf : List ℕ → ℕ
+editionOf s = numOf (take editionBits (bitsOf s))
+
+abbrev pub countOf : List ℕ → ℕ
+countOf s = numOf (take countBits (drop editionBits (bitsOf s)))
+
+-- the entries that the bits behind the header hold
+abbrev pub readingOf : List ℕ → Reading
+readingOf s = readAll (countOf s) (drop headerBits (bitsOf s))
+
+-- "0 to 7 zero bits to the byte's end, and nothing more"
+unfoldable pub paddingFits : List ℕ → Bool
+paddingFits rest = ltb (length rest) 8 && eqb (numOf rest) 0
+
+-- the answer to n bytes whose entries were read and judged: a refusal of an entry read comes first; then the entry at which the bits end;
+-- then 9, then 10
+unfoldable pub settled : ℕ → Reading → Verdict → Answer
+settled n r (faulty k i) = refused k i
+settled n r (left st b) =
+    cond (not (r .whole)) (refused cutShort (length (r .rows)))
+    (cond (not (oneTree st)) (refused notOneTree 0)
+    (cond (paddingFits (r .rest)) (taken n b (rootLabel st)) (refused badPadding 0)))
+
+-- the refusal of a header, or 0 and the node count: "1, 2 for the header, 3, 4"
+unfoldable pub headerOf : List ℕ → Header
+headerOf s =
+    cond (ltb maxBytes (length s)) (record { number = tooLong; count = 0 })
+    (cond (ltb (8 * length s) headerBits) (record { number = cutShort; count = 0 })
+    (cond (not (eqb (editionOf s) edition)) (record { number = otherEdition; count = 0 })
+    (cond (eqb (countOf s) 0) (record { number = noNodes; count = 0 }) (record { number = accepted; count = countOf s }))))
+
+module _ (H : List ℕ → List ℕ) (composed : List ℕ → Bool) where
+  -- the answer once the header has been taken
+  unfoldable pub bodyOf : List ℕ → Answer
+  bodyOf s = settled (length s) (readingOf s) (verdict H composed (readingOf s .rows))
+
+  -- the check of a slip
+  unfoldable pub checkOf : List ℕ → Answer
+  checkOf s = cond (eqb (headerOf s .number) accepted) (bodyOf s) (refused (headerOf s .number) 0)

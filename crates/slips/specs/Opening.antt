@@ -1,0 +1,59 @@
+-- What a slip is opened in, and what the opened areas hold.
+use Prim.Native.Nat.{ℕ, _+_, _*_, _≤_}
+use mathlib.Core.Bool.{Bool, not, cond}
+use mathlib.Core.List.{List}
+use mathlib.Core.Path.{_≡_}
+use lib.Dec.{eqb}
+use lib.ListN.{length, take}
+use Rattle.trees.specs.Rules.{maxNodes, maxBytes, labelBytes}
+use Rattle.tables.specs.Refusals.{accepted, cutShort, notOneTree, badPadding}
+use Rattle.tables.specs.Tables.{entries, firstBad, sum}
+use Rattle.sha2.specs.Sha256 as Sha256
+use Rattle.titles.specs.Compose.{composedText}
+use Rattle.engine.specs.Engine.{Labelled}
+use Rattle.engine.specs.declared.judge.Judged.{Judged}
+use Rattle.slips.specs.declared.answer.Answer.{Answer}
+use Rattle.slips.specs.declared.open.Opened.{Opened}
+use Rattle.slips.specs.Answers.{refused, taken}
+use Rattle.slips.specs.Check.{headerBits, countOf, readingOf, paddingFits, bodyOf}
+
+-- the answer to n bytes, from what the engine tells of the rows read
+unfoldable pub settledBy : ℕ → ℕ → Bool → List ℕ → Judged → Answer
+settledBy n rows whole rest j =
+    cond (not (eqb (j .number) accepted)) (refused (j .number) (j .place))
+    (cond (not whole) (refused cutShort rows)
+    (cond (not (j .one)) (refused notOneTree 0) (cond (paddingFits rest) (taken n (j .blocks) (j .label)) (refused badPadding 0))))
+
+-- a slip of n entries whose header is taken, and room for its rows, its values, its stack and its labels
+pub record Lent (s : List ℕ) (n : ℕ) (types counts lengths values kinds heights sizes work labels : List ℕ) : Type 0 where
+  pub head : headerBits ≤ 8 * length s
+  pub long : length s ≤ maxBytes
+  pub counted : n ≡ countOf s
+  pub few : n ≤ maxNodes
+  pub types-room : n ≤ length types
+  pub counts-room : n ≤ length counts
+  pub lengths-room : n ≤ length lengths
+  pub values-room : length s ≤ length values
+  pub kinds-room : n ≤ length kinds
+  pub heights-room : n ≤ length heights
+  pub sizes-room : n ≤ length sizes
+  pub work-room : 4 * n + length s ≤ length work
+  pub labels-room : labelBytes * n ≤ length labels
+
+-- the answer, the table of the rows read, and the label of each internal row
+pub record Opens (s : List ℕ) (r : Opened) (types counts lengths values labels : List ℕ) : Type 0 where
+  pub answer : r .answer ≡ bodyOf Sha256.label composedText s
+  pub count : r .rows ≡ length (readingOf s .rows)
+  pub rows : entries (take (r .rows) types) (take (r .rows) counts) (take (r .rows) lengths) (take (r .used) values) ≡ readingOf s .rows
+  pub formed : firstBad 0 (take (r .rows) types) (take (r .rows) counts) (take (r .rows) lengths) ≡ r .rows
+  pub used : r .used ≡ sum (take (r .rows) lengths)
+  pub few : r .rows ≤ countOf s
+  pub room : r .used ≤ length values
+  pub labelled : Labelled Sha256.label composedText (readingOf s .rows) (take (r .rows) counts) labels
+
+-- a slip of n entries whose header is taken, of at most `bytes` bytes and `nodes` nodes
+pub record Counted (s : List ℕ) (n bytes nodes : ℕ) : Type 0 where
+  pub head : headerBits ≤ 8 * length s
+  pub long : length s ≤ bytes
+  pub counted : n ≡ countOf s
+  pub few : n ≤ nodes

@@ -1,0 +1,92 @@
+// The check of a slip.
+use crate::answer;
+use crate::answer::Answer;
+use crate::areas::Full;
+use crate::areas::Small;
+use crate::header;
+use crate::open;
+use tables::limits::Slip;
+use tables::refusals::Refusal;
+ghost use mathlib.Core.Path.{_≡_};
+ghost use Rattle.sha2.specs.Sha256 as Sha256;
+ghost use Rattle.titles.specs.Compose.{composedText};
+ghost use Rattle.slips.specs.Check.{bodyOf, checkOf};
+ghost use Rattle.slips.specs.Opening.{Counted};
+ghost use Rattle.trees.specs.Rules.{maxBytes, maxNodes};
+
+// In areas for a slip of at most 1,024 bytes and 64 nodes.
+fn small(s: &[u8], n: usize) -> Answer
+    requires { ⌜ Counted (now s) n 1024 64 ⌝ }
+    ensures { λ r. ⌜ r ≡ bodyOf Sha256.label composedText (now (s .entry)) ⌝ }
+{
+    let mut types = [0u16; Small::NODES];
+    let mut counts = [0u16; Small::NODES];
+    let mut lengths = [0u16; Small::NODES];
+    let mut values = [0u8; Small::BYTES];
+    let mut kinds = [0u16; Small::NODES];
+    let mut heights = [0u16; Small::NODES];
+    let mut sizes = [0u16; Small::NODES];
+    let mut work = [0u8; Small::WORK];
+    let mut labels = [0u8; Small::LABELS];
+    let o = open::open_in(
+        s,
+        n,
+        &mut types,
+        &mut counts,
+        &mut lengths,
+        &mut values,
+        &mut kinds,
+        &mut heights,
+        &mut sizes,
+        &mut work,
+        &mut labels,
+    );
+    o.answer
+}
+
+// In areas for any slip.
+fn large(s: &[u8], n: usize) -> Answer
+    requires { ⌜ Counted (now s) n maxBytes maxNodes ⌝ }
+    ensures { λ r. ⌜ r ≡ bodyOf Sha256.label composedText (now (s .entry)) ⌝ }
+{
+    let mut types = [0u16; Slip::MAX_NODES];
+    let mut counts = [0u16; Slip::MAX_NODES];
+    let mut lengths = [0u16; Slip::MAX_NODES];
+    let mut values = [0u8; Slip::MAX_BYTES];
+    let mut kinds = [0u16; Slip::MAX_NODES];
+    let mut heights = [0u16; Slip::MAX_NODES];
+    let mut sizes = [0u16; Slip::MAX_NODES];
+    let mut work = [0u8; Full::WORK];
+    let mut labels = [0u8; Full::LABELS];
+    let o = open::open_in(
+        s,
+        n,
+        &mut types,
+        &mut counts,
+        &mut lengths,
+        &mut values,
+        &mut kinds,
+        &mut heights,
+        &mut sizes,
+        &mut work,
+        &mut labels,
+    );
+    o.answer
+}
+
+// Whether the bytes are a slip of one well-formed tree: its length, blocks and root label, or the refusal.
+pub fn check(s: &[u8]) -> Answer
+    ensures { λ r. ⌜ r ≡ checkOf Sha256.label composedText (now (s .entry)) ⌝ }
+{
+    let h = header::header_of(s);
+    if h.number != Refusal::ACCEPTED {
+        return answer::refused(h.number, 0);
+    }
+    let n = h.count;
+    if s.len() <= Small::BYTES {
+        if n <= Small::NODES {
+            return small(s, n);
+        }
+    }
+    large(s, n)
+}
