@@ -1,0 +1,93 @@
+// The calls between a slip and its table: check, pack, unpack.
+use crate::answer;
+use crate::room;
+use lines::fields;
+use lines::page;
+use lines::parts;
+use slips::calls;
+
+// check SLIP
+pub fn check(
+    bytes: &[u8; fields::AREA],
+    ends: &[usize; fields::ENDS],
+    text: &mut [u8; page::BYTES],
+    at: usize,
+) -> usize {
+    let a = calls::check(fields::text(bytes, ends, 0));
+    let to = answer::head(text, at, a);
+    page::byte(text, to, b'\n')
+}
+
+// pack TYPES COUNTS LENGTHS VALUES ROOM
+pub fn pack(
+    cells: &[u16; fields::AREA],
+    bytes: &[u8; fields::AREA],
+    ends: &[usize; fields::ENDS],
+    text: &mut [u8; page::BYTES],
+    at: usize,
+) -> usize {
+    let mut out = [room::FILL; room::MOST];
+    let n = parts::byte_room(&out, fields::number(cells, ends, 4));
+    packed(cells, bytes, ends, &mut out[..n], text, at)
+}
+
+fn packed(
+    cells: &[u16; fields::AREA],
+    bytes: &[u8; fields::AREA],
+    ends: &[usize; fields::ENDS],
+    out: &mut [u8],
+    text: &mut [u8; page::BYTES],
+    at: usize,
+) -> usize {
+    let types = fields::column(cells, ends, 0);
+    let counts = fields::column(cells, ends, 1);
+    let lengths = fields::column(cells, ends, 2);
+    let values = fields::text(bytes, ends, 3);
+    let a = calls::pack(types, counts, lengths, values, out);
+    answer::slip(text, at, a, out)
+}
+
+// unpack SLIP ROOM ROOM ROOM ROOM: cells of types, counts and lengths, and bytes of values
+pub fn unpack(
+    cells: &[u16; fields::AREA],
+    bytes: &[u8; fields::AREA],
+    ends: &[usize; fields::ENDS],
+    text: &mut [u8; page::BYTES],
+    at: usize,
+) -> usize {
+    let mut types = [room::FILL_CELL; room::MOST];
+    let mut counts = [room::FILL_CELL; room::MOST];
+    let mut lengths = [room::FILL_CELL; room::MOST];
+    let mut values = [room::FILL; room::MOST];
+    let t = parts::cell_room(&types, fields::number(cells, ends, 1));
+    let c = parts::cell_room(&counts, fields::number(cells, ends, 2));
+    let l = parts::cell_room(&lengths, fields::number(cells, ends, 3));
+    let v = parts::byte_room(&values, fields::number(cells, ends, 4));
+    let slip = fields::text(bytes, ends, 0);
+    unpacked(
+        slip,
+        &mut types[..t],
+        &mut counts[..c],
+        &mut lengths[..l],
+        &mut values[..v],
+        text,
+        at,
+    )
+}
+
+fn unpacked(
+    slip: &[u8],
+    types: &mut [u16],
+    counts: &mut [u16],
+    lengths: &mut [u16],
+    values: &mut [u8],
+    text: &mut [u8; page::BYTES],
+    from: usize,
+) -> usize {
+    let a = calls::unpack(slip, types, counts, lengths, values);
+    let mut at = answer::head(text, from, a);
+    at = answer::column(text, at, types);
+    at = answer::column(text, at, counts);
+    at = answer::column(text, at, lengths);
+    answer::bytes(text, at, values)
+}

@@ -1,0 +1,17 @@
+-- `check_bench::run` is safe and ends: the turns are counted down.
+use borrow.Author.Needs.{needs}
+use Rattle.check_bench.proofs.run.Statement.{statement}
+use Rattle.check_bench.proofs.run.Tie as tie
+
+abbrev Inv-loop : tie.InvT-loop
+Inv-loop slip₀ tally₀ turns₀ slip tally turns = Unit {0}
+
+abbrev μ-loop : tie.MeasureT-loop
+μ-loop slip₀ tally₀ turns₀ slip tally turns = turns
+
+pub run-spec : {M : Type 1} → statement M
+run-spec =
+    tie.close (tie.spec Inv-loop μ-loop (λ c κs. search needs) (λ c. search needs)
+    (λ c κs. search needs) (λ c. search needs) (λ c. search needs) (λ c. search needs)
+    (λ c κs. search needs) (λ c κs. search needs) (λ c. search needs) (λ c. search needs)
+    (λ c. search needs) (λ c. search needs))

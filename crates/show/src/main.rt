@@ -1,0 +1,15 @@
+// Reads a slip from standard input and prints what it discloses, or its refusal.
+use libc::STDIN_FILENO;
+use lines::page;
+use tables::limits::Slip;
+
+// One byte more than a slip may have: a longer input is refused all the same.
+const ROOM: usize = Slip::MAX_BYTES + 1;
+
+fn main() {
+    let mut slip = [0u8; ROOM];
+    let n = io::read_full(STDIN_FILENO, &mut slip);
+    let mut text = [0u8; page::BYTES];
+    let at = shown::slip(&mut text, 0, &slip[..n]);
+    page::flush(&text, at);
+}
