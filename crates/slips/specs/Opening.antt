@@ -51,6 +51,13 @@ pub record Opens (s : List ℕ) (r : Opened) (types counts lengths values labels
   pub room : r .used ≤ length values
   pub labelled : Labelled Sha256.label composedText (readingOf s .rows) (take (r .rows) counts) labels
 
+-- the areas of a small slip: the code's `Small::BYTES` and `Small::NODES`
+abbrev pub smallBytes : ℕ
+smallBytes = 1024
+
+abbrev pub smallNodes : ℕ
+smallNodes = 64
+
 -- a slip of n entries whose header is taken, of at most `bytes` bytes and `nodes` nodes
 pub record Counted (s : List ℕ) (n bytes nodes : ℕ) : Type 0 where
   pub head : headerBits ≤ 8 * length s

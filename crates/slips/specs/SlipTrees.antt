@@ -144,6 +144,10 @@ module _ (H : List ℕ → List ℕ) (composed : List ℕ → Bool) where
       ∙ rw (reading, complete-tree H composed n (x .well))
       (one-settles s (r .pad) (rows n) n (r .few) (x .well .root))
 
+  -- "The label of a dangling root is the label it carries", and nothing is hashed
+  pub dangling-root : (s l : List ℕ) → SlipOf s (leaf 0 l) → checkOf H composed s ≡ taken (length s) 0 l
+  dangling-root s l x = check-complete s (leaf 0 l) x
+
   from-body : (s : List ℕ) → Below 256 s → headerOf s .number ≡ accepted → bodyOf H composed s .number ≡ accepted → (n : Node) × SlipOf s n
   unfolding bodyOf
   from-body s bytes h e =

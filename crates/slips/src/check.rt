@@ -11,12 +11,12 @@ ghost use mathlib.Core.Path.{_≡_};
 ghost use Rattle.sha2.specs.Sha256 as Sha256;
 ghost use Rattle.titles.specs.Compose.{composedText};
 ghost use Rattle.slips.specs.Check.{bodyOf, checkOf};
-ghost use Rattle.slips.specs.Opening.{Counted};
+ghost use Rattle.slips.specs.Opening.{Counted, smallBytes, smallNodes};
 ghost use Rattle.trees.specs.Rules.{maxBytes, maxNodes};
 
 // In areas for a slip of at most 1,024 bytes and 64 nodes.
 fn small(s: &[u8], n: usize) -> Answer
-    requires { ⌜ Counted (now s) n 1024 64 ⌝ }
+    requires { ⌜ Counted (now s) n smallBytes smallNodes ⌝ }
     ensures { λ r. ⌜ r ≡ bodyOf Sha256.label composedText (now (s .entry)) ⌝ }
 {
     let mut types = [0u16; Small::NODES];
