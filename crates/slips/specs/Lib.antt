@@ -14,3 +14,4 @@ pub mod SlipTrees
 pub mod RoundTrips
 pub mod InTurn
 pub mod OneAnswer
+pub mod RowLabelLaws

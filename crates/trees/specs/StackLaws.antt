@@ -44,7 +44,7 @@ module _ (H : List ℕ → List ℕ) where
 
 module _ (H : List ℕ → List ℕ) (composed : List ℕ → Bool) where
   -- the step of an internal node on its children
-  node-step : (st : List Tag) (r : Run) → height (inner r) ≤ maxHeight → salted (heads H r) ≡ true
+  pub node-step : (st : List Tag) (r : Run) → height (inner r) ≤ maxHeight → salted (heads H r) ≡ true
       → stepOf H composed (st ++ map (tagOf H) (nodesOf r)) (node (count r))
       ≡ next (st ++ (tagOf H (inner r) ∷ [])) (blocksOf (length (prelabel (heads H r))))
   node-step st r low salt =
