@@ -1,0 +1,1 @@
+// The cases have no code: specs/ holds them, by computation.
