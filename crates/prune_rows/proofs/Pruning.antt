@@ -1,0 +1,47 @@
+-- A table marked and picked is the pruned tree's.
+use mathlib.Core.Path.{_∙_, subst}
+use mathlib.Core.List.{List}
+use Prim.Native.Nat.{ℕ, _≤_}
+use native.Mathlib.Omega.{arith}
+use Rattle.trees.specs.Nodes.{Node}
+use Rattle.trees.specs.Rows.{prunedRows}
+use Rattle.tables.specs.Records.{Holds, named}
+use Rattle.prune_rows.specs.Contracts.{Written, Prunable, Prunes}
+use Rattle.prune_rows.specs.Steps.{Pickable, Picks}
+use Rattle.prune_rows.specs.PrunedLaws.{Marked, marked-inner, picked-table, picked-blocks, pruned-some, written-rows}
+
+module _ (types counts lengths values labels costs list marks : List ℕ) (able : Prunable types counts lengths values labels costs list)
+    (marked : Marked list counts marks) where
+  pub pickable : Pickable types counts lengths values labels costs marks
+  pickable =
+      let h = able .holds in
+      record {
+        counts-long = h .counts-long;
+        lengths-long = h .lengths-long;
+        few = h .few;
+        formed = h .formed;
+        area = h .area;
+        labels-room = h .labels-room;
+        costs-room = h .costs-room;
+        cuts = λ k l. marked-inner list counts marks (able .clean) marked k (omega (arith, h .counts-long));
+      }
+
+  pub prunes :
+      (rows used count : ℕ) (ts cs ls vs : List ℕ)
+      → Picks types counts lengths values labels costs marks rows used count ts cs ls vs
+      → Prunes types counts lengths values labels costs list rows used count ts cs ls vs
+  prunes rows used count ts cs ls vs p =
+      record { some-row = some; no-more = p .no-more; table = table; blocks-are = λ H n h. p .cost ∙ picked-blocks H n types counts lengths values labels costs list marks h marked }
+    where
+      table : (H : List ℕ → List ℕ) (n : Node) → Holds H n types counts lengths values labels costs
+          → Written rows used ts cs ls vs (prunedRows H (named list) 0 n)
+      table H n h = subst (Written rows used ts cs ls vs) (picked-table H n types counts lengths values labels costs list marks h marked) (p .table)
+
+      some : 1 ≤ rows
+      some =
+          let w : Written rows used ts cs ls vs (prunedRows (able .H) (named list) 0 (able .n)) = table (able .H) (able .n) (able .holds) in
+          omega (
+            arith,
+            written-rows rows used ts cs ls vs (prunedRows (able .H) (named list) 0 (able .n)) w,
+            pruned-some (able .H) list (able .n),
+          )
