@@ -18,6 +18,7 @@ pub mod JoinAlgebra
 pub mod RulesLaws
 pub mod Theorem1
 pub mod RowLabels
+pub mod RowLabelsLaws
 pub mod RowsLaws
 pub mod NumbersLaws
 pub mod StackLaws
