@@ -94,7 +94,7 @@ one-told n r (g ∷ []) b t =
     }
 one-told n r (g ∷ (h ∷ gs)) b t = absurd (true≢false (sym (t .1)))
 
-settled-told-by : (n : ℕ) (r : Reading) (v : Verdict) → Refuses v → settled n r v .number ≡ accepted → Settled r v
+pub settled-told-by : (n : ℕ) (r : Reading) (v : Verdict) → Refuses v → settled n r v .number ≡ accepted → Settled r v
 unfolding settled settledTests
 settled-told-by n r (faulty k i) p e = absurd (p e)
 settled-told-by n r (left st b) p e =

@@ -1,0 +1,5 @@
+-- The tree of an accepted slip, what holding it leaves, and a tree's slip handed out.
+pub mod SlipTree
+pub mod Sent
+pub mod Holding
+pub mod HoldingLaws
