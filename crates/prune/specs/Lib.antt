@@ -1,0 +1,3 @@
+-- What pruning a slip answers and leaves.
+pub mod Prune
+pub mod PruneCallLaws

@@ -1,0 +1,106 @@
+-- The pruner's tests, one after the other, over the areas that hold a slip.
+use Prim.Native.Nat.{ℕ, _+_, _≤_, _<_}
+use mathlib.Core.Bool.{Bool, true, false, not, cond, _&&_}
+use mathlib.Core.List.{List, [], _∷_, map}
+use mathlib.Core.Path.{_≡_, refl, sym, ap, _∙_, subst}
+use native.Mathlib.Omega.{arith}
+use borrow.Author.Tests.{lt-ltb, le-ltb, eq-eqb, ne-eqb}
+use lib.Dec.{ltb, leb, eqb}
+use lib.ListN.{length, take, getD}
+use lib.Seq.{length-take-le}
+use Rattle.trees.specs.Nodes.{Node, label, blocks}
+use Rattle.trees.specs.PruneLaws.{cut-label}
+use Rattle.trees.specs.Rows.{number, prunedRows}
+use Rattle.tables.specs.Refusals.{accepted, badList}
+use Rattle.tables.specs.Records.{Holds, named, firstFault}
+use Rattle.tables.specs.Tables.{entries}
+use Rattle.prune_rows.specs.Marks.{children}
+use Rattle.prune_rows.specs.Contracts.{Written, Prunes, pruned}
+use Rattle.prune_rows.specs.PrunedLaws.{rows-pruned}
+use Rattle.prune_rows.specs.TableLaws.{entries-counts}
+use Rattle.sha2.specs.Sha256 as Sha256
+use Rattle.titles.specs.Compose.{composedText}
+use Rattle.slips.specs.declared.answer.Answer.{Answer}
+use Rattle.slips.specs.Answers.{refused, taken}
+use Rattle.slips.specs.Check.{headerOf, readingOf, bodyOf, checkOf}
+use Rattle.slips.specs.HeaderLaws.{check-refused, check-body}
+use Rattle.slips.specs.Pack.{Packed, Packs}
+use Rattle.held.specs.SlipTree.{ReadsAs, slipTree}
+use Rattle.held.specs.Sent.{still, Sendable, sent, sentTree}
+use Rattle.held.specs.Holding.{HoldsTree}
+use Rattle.prune.specs.Prune.{prunedOf, pruneOf}
+
+-- an outcome by another name
+pub packs-as : {p q : Packed} {r : Answer} {out : List ℕ} → p ≡ q → Packs p r out → Packs q r out
+packs-as {r = r} {out} e x = subst (λ (y : Packed). Packs y r out) e x
+
+module _ (H : List ℕ → List ℕ) (composed : List ℕ → Bool) (s list out : List ℕ) where
+  -- a slip that is refused
+  pub prune-refused : {a : Answer} → a ≡ checkOf H composed s → (a .number ≡ accepted → ⊥) → Packs (pruneOf H composed s list out) a out
+  unfolding pruneOf
+  prune-refused {a} e h =
+      rw (ne-eqb (checkOf H composed s .number) accepted (λ q. h (ap (λ (x : Answer). x .number) e ∙ q))) (record { answered = e; written = refl })
+
+  -- and one that is accepted
+  pub prune-accepted : checkOf H composed s .number ≡ accepted → prunedOf H (map children (readingOf s .rows)) list (slipTree s) out ≡ pruneOf H composed s list out
+  unfolding pruneOf
+  prune-accepted e = sym (rw (eq-eqb (checkOf H composed s .number) accepted e))
+
+either-most : (b : Bool) (x y n : ℕ) → x ≤ n → y ≤ n → cond b x y ≤ n
+either-most true x y n p q = p
+either-most false x y n p q = q
+
+fault-within : (counts : List ℕ) (i low : ℕ) (list : List ℕ) → firstFault counts i low list ≤ i + length list
+unfolding firstFault
+fault-within counts i low [] = omega arith
+fault-within counts i low (x ∷ xs) =
+    either-most (leb low x && ltb 0 (getD counts x 0)) _ i _ (omega (arith, fault-within counts (i + 1) (x + 1) xs)) (omega arith)
+
+-- a list of which no number is found faulty is clean
+pub fault-none : (counts list : List ℕ) → length list ≤ firstFault counts 0 0 list → firstFault counts 0 0 list ≡ length list
+fault-none counts list h = omega (arith, fault-within counts 0 0 list)
+
+module _ (H : List ℕ → List ℕ) (counts list out : List ℕ) (n : Node) where
+  pub list-faulty : firstFault counts 0 0 list < length list → {r : Answer} → r ≡ refused badList (firstFault counts 0 0 list)
+      → Packs (prunedOf H counts list n out) r out
+  unfolding prunedOf
+  list-faulty h e = rw (lt-ltb (firstFault counts 0 0 list) (length list) h) (record { answered = e; written = refl })
+
+  pub list-clean : length list ≤ firstFault counts 0 0 list → sentTree H (pruned H list n) out ≡ prunedOf H counts list n out
+  unfolding prunedOf
+  list-clean h = sym (rw (le-ltb (firstFault counts 0 0 list) (length list) h))
+
+module _ {s : List ℕ} {rows : ℕ} {types counts lengths values labels costs : List ℕ} (h : HoldsTree s rows types counts lengths values labels costs) where
+  -- the column of counts has what the entries name
+  pub counts-held : take rows counts ≡ map children (readingOf s .rows)
+  counts-held =
+      sym (entries-counts (take rows types) (take rows counts) (take rows lengths) values (h .holds .counts-long) (h .holds .lengths-long))
+      ∙ ap (map children) (h .holds .rows-are ∙ sym (h .reads-as .rows-are))
+
+-- the table of the pruned tree can be sent, and is sent as that tree
+module _ {types counts lengths values labels costs list : List ℕ} {rows2 used count : ℕ} {types2 counts2 lengths2 values2 : List ℕ}
+    (p : Prunes types counts lengths values labels costs list rows2 used count types2 counts2 lengths2 values2)
+    (H : List ℕ → List ℕ) (n : Node) (h : Holds H n types counts lengths values labels costs) where
+  w : Written rows2 used types2 counts2 lengths2 values2 (prunedRows H (named list) 0 n)
+  w = p .table H n h
+
+  long : length (take rows2 types2) ≡ rows2
+  long = length-take-le rows2 types2 (w .types-room)
+
+  pub sendable : Sendable (take rows2 types2) (take rows2 counts2) (take rows2 lengths2) (take used values2)
+  sendable =
+      record {
+        columns =
+            record {
+              sameCounts = length-take-le rows2 counts2 (w .counts-room) ∙ sym long;
+              sameLengths = length-take-le rows2 lengths2 (w .lengths-room) ∙ sym long;
+              few = omega (arith, long, p .no-more, h .few);
+            };
+        form = w .formed ∙ sym long;
+        filled = omega (arith, w .sized, length-take-le used values2 (w .values-room));
+      }
+
+  pub sent-pruned : {l : List ℕ} → l ≡ label H n → (out : List ℕ)
+      → sent (entries (take rows2 types2) (take rows2 counts2) (take rows2 lengths2) (take used values2)) count l out ≡ sentTree H (pruned H list n) out
+  sent-pruned e out =
+      rw (w .are ∙ sym (rows-pruned H list n), p .blocks-are H n h, e ∙ sym (cut-label H (λ q. named list (number n q)) n)) refl
