@@ -11,8 +11,7 @@ use Rattle.trees.specs.Rows.{Entry, rows}
 use Rattle.trees.specs.RowsLaws.{length-rows}
 use Rattle.trees.specs.RowLabelsLaws.{length-labels}
 use Rattle.tables.specs.Refusals.{accepted}
-use Rattle.tables.specs.Records.{Holds}
-use Rattle.tables.specs.Tables.{entryOf, entries, firstBad, sum}
+use Rattle.tables.specs.Tables.{entryOf, entries, sum}
 use Rattle.costs.specs.Records.{TreeTable, Filled}
 use Rattle.engine.specs.Engine.{Labelled}
 use Rattle.sha2.specs.Sha256 as Sha256
@@ -20,11 +19,11 @@ use Rattle.sha2.specs.Blocks.{label-long}
 use Rattle.titles.specs.Compose.{composedText}
 use Rattle.slips.specs.declared.answer.Answer.{Answer}
 use Rattle.slips.specs.declared.open.Opened.{Opened}
-use Rattle.slips.specs.Check.{countOf, readingOf, bodyOf}
+use Rattle.slips.specs.Check.{countOf}
 use Rattle.slips.specs.Opening.{Opens}
 use Rattle.slips.specs.RowLabelLaws.{labelled-tree}
 use Rattle.held.specs.SlipTree.{ReadsAs, slipTree, body-tree}
-use Rattle.held.specs.Holding.{HoldsTree, Held}
+use Rattle.held.specs.Holding.{HoldsTree}
 
 -- entries look at no more of the area than the sum of lengths
 entries-part : (ts cs ls vs : List ℕ) → sum ls ≤ length vs → entries ts cs ls (take (sum ls) vs) ≡ entries ts cs ls vs

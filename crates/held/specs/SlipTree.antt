@@ -24,7 +24,7 @@ use Rattle.slips.specs.Answers.{taken}
 use Rattle.slips.specs.Check.{countOf, readingOf, paddingFits, settled, headerOf, bodyOf, checkOf}
 use Rattle.slips.specs.HeaderLaws.{check-refused, check-body}
 use Rattle.slips.specs.Verdicts.{verdict-refuses}
-use Rattle.slips.specs.SlipTrees.{settled-told-by, proper-formed, SlipOf, slip-rows, check-complete}
+use Rattle.slips.specs.SlipTrees.{settled-told-by, proper-formed, SlipOf, slip-rows}
 
 -- the tree that waits first; none waits behind no entry
 abbrev pub firstTree : List Node → Node

@@ -1,14 +1,14 @@
 -- The pruner's tests, one after the other, over the areas that hold a slip.
 use Prim.Native.Nat.{ℕ, _+_, _≤_, _<_}
-use mathlib.Core.Bool.{Bool, true, false, not, cond, _&&_}
+use mathlib.Core.Bool.{Bool, true, false, cond, _&&_}
 use mathlib.Core.List.{List, [], _∷_, map}
 use mathlib.Core.Path.{_≡_, refl, sym, ap, _∙_, subst}
 use native.Mathlib.Omega.{arith}
 use borrow.Author.Tests.{lt-ltb, le-ltb, eq-eqb, ne-eqb}
-use lib.Dec.{ltb, leb, eqb}
+use lib.Dec.{ltb, leb}
 use lib.ListN.{length, take, getD}
 use lib.Seq.{length-take-le}
-use Rattle.trees.specs.Nodes.{Node, label, blocks}
+use Rattle.trees.specs.Nodes.{Node, label}
 use Rattle.trees.specs.PruneLaws.{cut-label}
 use Rattle.trees.specs.Rows.{number, prunedRows}
 use Rattle.tables.specs.Refusals.{accepted, badList}
@@ -19,14 +19,12 @@ use Rattle.prune_rows.specs.Contracts.{Written, Prunes, pruned}
 use Rattle.prune_rows.specs.PrunedLaws.{rows-pruned}
 use Rattle.prune_rows.specs.TableLaws.{entries-counts}
 use Rattle.sha2.specs.Sha256 as Sha256
-use Rattle.titles.specs.Compose.{composedText}
 use Rattle.slips.specs.declared.answer.Answer.{Answer}
-use Rattle.slips.specs.Answers.{refused, taken}
-use Rattle.slips.specs.Check.{headerOf, readingOf, bodyOf, checkOf}
-use Rattle.slips.specs.HeaderLaws.{check-refused, check-body}
+use Rattle.slips.specs.Answers.{refused}
+use Rattle.slips.specs.Check.{readingOf, checkOf}
 use Rattle.slips.specs.Pack.{Packed, Packs}
-use Rattle.held.specs.SlipTree.{ReadsAs, slipTree}
-use Rattle.held.specs.Sent.{still, Sendable, sent, sentTree}
+use Rattle.held.specs.SlipTree.{slipTree}
+use Rattle.held.specs.Sent.{Sendable, sent, sentTree}
 use Rattle.held.specs.Holding.{HoldsTree}
 use Rattle.prune.specs.Prune.{prunedOf, pruneOf}
 

@@ -72,31 +72,33 @@ module _ (H : List ℕ → List ℕ) where
   either-eq false true x y z e h = absurd (false≢true e)
   either-eq false false x y z e h = h refl
 
-  -- names count only at places that stay
+  -- names count only at nodes that stay
   mutual
-    pub cut-agree : (f g : Place → Bool) (n : Node) → ((p : Place) → stays f p ≡ true → f p ≡ g p) → cut H f n ≡ cut H g n
+    pub cut-agree : (f g : Place → Bool) (n : Node) → ((p : Place) (m : Node) → nodeAt n p ≡ some m → stays f p ≡ true → f p ≡ g p)
+        → cut H f n ≡ cut H g n
     cut-agree f g (inner r) h =
         either-eq (f []) (g []) (leaf 0 (H (prelabel (heads H r)))) (inner (cutIn H (λ i p. f (i ∷ p)) r)) (inner (cutIn H (λ i p. g (i ∷ p)) r))
-        (h [] refl)
+        (h [] (inner r) refl refl)
         (λ e. ap inner (cut-in-agree (λ i p. f (i ∷ p)) (λ i p. g (i ∷ p)) r
-        (λ i p k. h (i ∷ p) (and-both (not (f [])) (stays (λ q. f (i ∷ q)) p) (ap not e) k))))
+        (λ i p m at k. h (i ∷ p) m at (and-both (not (f [])) (stays (λ q. f (i ∷ q)) p) (ap not e) k))))
     cut-agree f g (leaf t v) h = refl
 
-    pub cut-in-agree : (f g : ℕ → Place → Bool) (r : Run) → ((i : ℕ) (p : Place) → stays (f i) p ≡ true → f i p ≡ g i p)
-        → cutIn H f r ≡ cutIn H g r
+    pub cut-in-agree : (f g : ℕ → Place → Bool) (r : Run)
+        → ((i : ℕ) (p : Place) (m : Node) → childAt r i p ≡ some m → stays (f i) p ≡ true → f i p ≡ g i p) → cutIn H f r ≡ cutIn H g r
     cut-in-agree f g nil h = refl
     cut-in-agree f g (cons n r) h =
-        λ i. cons (cut-agree (f 0) (g 0) n (h 0) i) (cut-in-agree (λ j p. f (suc j) p) (λ j p. g (suc j) p) r (λ j p k. h (suc j) p k) i)
+        λ i. cons (cut-agree (f 0) (g 0) n (λ p m at k. h 0 p m at k) i)
+        (cut-in-agree (λ j p. f (suc j) p) (λ j p. g (suc j) p) r (λ j p m at k. h (suc j) p m at k) i)
 
   -- no place below a named one stays
-  stays-above : (f : Place → Bool) (p : Place) (i : ℕ) (q : Place) → stays f (p ++ (i ∷ q)) ≡ true → f p ≡ false
+  pub stays-above : (f : Place → Bool) (p : Place) (i : ℕ) (q : Place) → stays f (p ++ (i ∷ q)) ≡ true → f p ≡ false
   stays-above f [] i q e = not-true (f []) (and-left (not (f [])) (stays (λ x. f (i ∷ x)) q) e)
   stays-above f (j ∷ p) i q e = stays-above (λ x. f (j ∷ x)) p i q (and-right (not (f [])) (stays (λ x. f (j ∷ x)) (p ++ (i ∷ q))) e)
 
   -- "A name below another named node adds nothing."
   pub cut-below : (f : Place → Bool) (n : Node) (p : Place) (i : ℕ) (q : Place) → f p ≡ true
       → cut H f n ≡ cut H (λ x. f x || same (p ++ (i ∷ q)) x) n
-  cut-below f n p i q named = cut-agree f (λ x. f x || same (p ++ (i ∷ q)) x) n (λ x k. go x k (f x) refl (same (p ++ (i ∷ q)) x) refl)
+  cut-below f n p i q named = cut-agree f (λ x. f x || same (p ++ (i ∷ q)) x) n (λ x m at k. go x k (f x) refl (same (p ++ (i ∷ q)) x) refl)
     where
       go : (x : Place) → stays f x ≡ true → (a : Bool) → f x ≡ a → (b : Bool) → same (p ++ (i ∷ q)) x ≡ b → a ≡ (a || b)
       go x k true d b e = refl
