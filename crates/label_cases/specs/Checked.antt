@@ -1,8 +1,8 @@
 -- The sample cases of the check under another label function, by computation: each slip, and behind it the answer expected.
-use Prim.Native.Nat.{ℕ, _*_, _%_}
+use Prim.Native.Nat.{ℕ}
 use mathlib.Core.List.{List, [], _∷_, map}
 use mathlib.Core.Path.{_≡_, refl}
-use lib.ListN.{length, replicate}
+use lib.ListN.{replicate}
 use Rattle.bits.specs.Bits.{bitsIn, bitsOf, numOf, octets}
 use Rattle.titles.specs.Utf8.{width, within, low, high, tail, twoBytes, threeBytes, fourBytes, character, front, chars, decode}
 use Rattle.titles.specs.Repertoire.{member, marks, isMark, plain, allPlain}
@@ -11,14 +11,7 @@ use Rattle.codec.specs.Reading.{readValue, readLeaf, readRest, readOne, readAll
 use Rattle.slips.specs.declared.answer.Answer.{Answer}
 use Rattle.slips.specs.Answers.{taken}
 use Rattle.slips.specs.Check.{paddingFits, settled, headerOf, bodyOf, checkOf}
-
--- "Under a label of 32 copies of prelabel length modulo 256"
-abbrev pub copies : List ℕ → List ℕ
-copies x = replicate 32 (length x % 256)
-
--- the n bytes of a number, the highest first
-abbrev pub bytes : ℕ → ℕ → List ℕ
-bytes n v = octets n (bitsIn (8 * n) v)
+use Rattle.label_cases.specs.Values.{copies, bytes}
 
 -- a slip of n bytes, and the answer expected of it
 pub record Case : Type 0 where
