@@ -1,5 +1,6 @@
 // The running digest: one small record that grows with each part of a text.
 use crate::compression;
+use crate::lent;
 use crate::octets;
 ghost use mathlib.Core.Path.{_≡_};
 ghost use mathlib.Core.List.{[]};
@@ -115,5 +116,5 @@ pub fn label(text: &[u8]) -> [u8; 32]
     requires { ⌜ length (now text) < 2 ^ 61 ⌝ }
     ensures { λ r. ⌜ r ≡ Sha256.label (now (text .entry)) ⌝ }
 {
-    Digest::new().absorb(text).finish()
+    lent::grown(Digest::new(), text).finish()
 }
