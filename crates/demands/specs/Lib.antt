@@ -1,0 +1,10 @@
+-- The three demands of the request, over the definitions that the public calls' contracts cite.
+pub mod Refusals
+pub mod Demand1
+pub mod TitleRefusals
+pub mod Demand2
+pub mod Library
+pub mod LibraryLaws
+pub mod Demand3
+pub mod OneAnswer
+pub mod Marked

@@ -1,0 +1,99 @@
+-- A library that keeps a slip and joins each arrival to it: demand 3 over bytes.
+use Prim.Native.Nat.{ℕ}
+use mathlib.Core.Bool.{Bool, true, false, cond, _||_}
+use mathlib.Core.List.{List, [], _∷_}
+use mathlib.Core.Logic.{_⊎_}
+use mathlib.Core.Option.{some}
+use mathlib.Core.Path.{_≡_}
+use lib.Dec.{eqb}
+use lib.ListN.{length, take}
+use Rattle.bits.specs.Lists.{Below}
+use Rattle.trees.specs.Rules.{clashing}
+use Rattle.trees.specs.Places.{Place, Fact, tells}
+use Rattle.trees.specs.Join.{Collision}
+use Rattle.trees.specs.Ends.{bare}
+use Rattle.trees.specs.Rows.{rows}
+use Rattle.tables.specs.Refusals.{accepted, noRoom, joinTooLarge}
+use Rattle.codec.specs.Writing.{slipOf}
+use Rattle.slips.specs.Check.{checkOf}
+use Rattle.slips.specs.Pack.{Packed}
+use Rattle.held.specs.SlipTree.{slipTree}
+use Rattle.join.specs.Join.{joinOf}
+
+-- what arrives: any bytes, and the buffer lent for the join
+pub record Arrival : Type 0 where
+  pub slip : List ℕ
+  pub buffer : List ℕ
+  pub bytes : Below 256 slip
+
+-- "Two libraries start from the same root label with nothing disclosed": the slip of the bare root
+abbrev pub start : List ℕ → List ℕ
+start l = slipOf (rows (bare l))
+
+-- one of the arrivals has the bytes s
+abbrev pub Reached : List Arrival → List ℕ → Type 0
+Reached [] s = ⊥
+Reached (a ∷ xs) s = (a .slip ≡ s) ⊎ Reached xs s
+
+-- "that a slip doesn't fit": 11 or 15
+abbrev pub misfits : ℕ → Bool
+misfits k = eqb k noRoom || eqb k joinTooLarge
+
+-- 14
+abbrev pub clashes : ℕ → Bool
+clashes k = eqb k clashing
+
+module _ (H : List ℕ → List ℕ) (composed : List ℕ → Bool) where
+  -- the join's outcome, where c is held
+  abbrev pub outcome : List ℕ → Arrival → Packed
+  outcome c a = joinOf H composed c (a .slip) (a .buffer)
+
+  -- what is held then: the bytes written where the join is accepted, else the same
+  abbrev pub after : List ℕ → Arrival → List ℕ
+  after c a = cond (eqb (outcome c a .answer .number) accepted) (take (outcome c a .answer .length) (outcome c a .bytes)) c
+
+  -- what is held after all arrivals
+  abbrev pub kept : List ℕ → List Arrival → List ℕ
+  kept c [] = c
+  kept c (a ∷ xs) = kept (after c a) xs
+
+  -- one of the answers on the way has a number that passes the test
+  abbrev pub ever : (ℕ → Bool) → List ℕ → List Arrival → Bool
+  ever f c [] = false
+  ever f c (a ∷ xs) = f (outcome c a .answer .number) || ever f (after c a) xs
+
+  module _ (l : List ℕ) where
+    -- an accepted slip with the root label l
+    pub record Ours (s : List ℕ) : Type 0 where
+      pub good : checkOf H composed s .number ≡ accepted
+      pub root : checkOf H composed s .label ≡ l
+
+    -- the copy of a library that started from the bare root
+    abbrev pub copy : List Arrival → List ℕ
+    copy xs = kept (start l) xs
+
+    -- some arrival with that root discloses x at the place p
+    pub record Tells (xs : List Arrival) (p : Place) (x : Fact) : Type 0 where
+      pub slip : List ℕ
+      pub reached : Reached xs slip
+      pub ours : Ours slip
+      pub here : tells H (slipTree slip) p ≡ some x
+
+    -- "each has been shown two different texts with one hash": it answered 14, and two of its own arrivals have them at one place
+    pub record Shown (xs : List Arrival) : Type 0 where
+      pub answered : ever clashes (start l) xs ≡ true
+      pub place : Place
+      pub first : List ℕ
+      pub second : List ℕ
+      pub reachedFirst : Reached xs first
+      pub reachedSecond : Reached xs second
+      pub oursFirst : Ours first
+      pub oursSecond : Ours second
+      pub collision : Collision H (tells H (slipTree first) place) (tells H (slipTree second) place)
+
+    -- "both hold the same bytes, disclosing exactly what some slip with that root discloses at each place"
+    pub record Same (xs ys : List Arrival) : Type 0 where
+      pub equal : copy xs ≡ copy ys
+      pub good : Ours (copy xs)
+      pub known : (p : Place) (x : Fact) → tells H (slipTree (copy xs)) p ≡ some x → Tells xs p x
+      pub told : (p : Place) (x : Fact) → Tells xs p x → tells H (slipTree (copy xs)) p ≡ some x
