@@ -26,7 +26,7 @@ use Rattle.held.specs.SlipTree.{ReadsAs, slipTree, body-tree}
 use Rattle.held.specs.Holding.{HoldsTree}
 
 -- entries look at no more of the area than the sum of lengths
-entries-part : (ts cs ls vs : List ℕ) → sum ls ≤ length vs → entries ts cs ls (take (sum ls) vs) ≡ entries ts cs ls vs
+pub entries-part : (ts cs ls vs : List ℕ) → sum ls ≤ length vs → entries ts cs ls (take (sum ls) vs) ≡ entries ts cs ls vs
 unfolding sum
 entries-part [] cs ls vs h = refl
 entries-part (t ∷ ts) [] ls vs h = refl

@@ -7,7 +7,8 @@ ghost use lib.ListN.{length};
 ghost use Rattle.trees.specs.Lists as Lists;
 ghost use Rattle.join_rows.specs.Columns.{textAt, headAt, headsBack, sameHead, agree, Labelled, Ready};
 
-fn same(a: &[u8], b: &[u8]) -> bool
+// Whether two texts are equal.
+pub fn same(a: &[u8], b: &[u8]) -> bool
     ensures { λ r. ⌜ r ≡ Lists.same (now (a .entry)) (now (b .entry)) ⌝ }
 {
     if a.len() != b.len() {

@@ -2,3 +2,4 @@
 pub mod Values
 pub mod Checked
 pub mod Pruned
+pub mod Joined

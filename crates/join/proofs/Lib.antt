@@ -1,0 +1,4 @@
+-- Laws that the functions' proofs cite.
+pub mod Answering
+pub mod Holding
+pub mod Merging

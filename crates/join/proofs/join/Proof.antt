@@ -1,0 +1,38 @@
+use mathlib.Core.Path.{sym, ap, _∙_}
+use Rattle.slips.specs.declared.answer.Answer.{Answer}
+use Rattle.join.specs.Join.{sided}
+use Rattle.join.proofs.Answering.{headed, join-first, head-first, head-second}
+use borrow.Author.Needs.{needs}
+use Rattle.join.proofs.join.Statement.{statement}
+use Rattle.join.proofs.join.Tie as tie
+
+returns : tie.Need-returns
+returns c = head-first _ _ _ _ _ (c .before .before .before .before .header-of .ensures) (c .before .before .if1 .taken) (c .sided .ensures ∙ ap (sided 1) (c .before .refused .ensures))
+
+returns-2 : tie.Need-returns-2
+returns-2 c =
+    let e = c .before .before .before .check .ensures in
+    join-first _ _ _ _ _ (λ q. c .before .if3 .taken (ap (λ (a : Answer). a .number) e ∙ q)) (c .sided2 .ensures ∙ ap (sided 1) e)
+
+returns-3 : tie.Need-returns-3
+returns-3 c =
+    head-second _ _ _ _ _ (ap (λ (a : Answer). a .number) (sym (c .before .before .before .before .check .ensures)) ∙ c .before .before .if3 .left) (c .before .before .before .before .before .before .before .header-of2 .ensures) (c .before .before .before .before .before .if2 .taken)
+    (c .sided3 .ensures ∙ ap (sided 2) (c .before .refused2 .ensures))
+
+small-requires : tie.Need-small-requires
+small-requires c κs =
+    let x = headed _ (c .before .before .before .before .before .before .before .before .before .before .header-of .ensures) (c .before .before .before .before .before .before .before .before .if1 .left) in
+    let y = headed _ (c .before .before .before .before .before .before .before .header-of2 .ensures) (c .before .before .before .before .before .if2 .left) in (
+      record { taken = x .taken; is = record { head = x .is .head; long = c .before .before .before .before .if4 .taken; counted = x .is .counted; few = c .before .before .if6 .taken } },
+      record { taken = y .taken; is = record { head = y .is .head; long = c .before .before .before .if5 .taken; counted = y .is .counted; few = c .before .if7 .taken } },
+    )
+
+large-requires : tie.Need-large-requires
+large-requires c κs = (headed _ (c .before .before .before .before .before .before .before .header-of .ensures) (c .before .before .before .before .before .if1 .left), headed _ (c .before .before .before .before .header-of2 .ensures) (c .before .before .if2 .left))
+
+pub join-spec : {M : Type 1} → statement M
+join-spec =
+    tie.close
+    (tie.spec (λ c κs. search needs) (λ c κs. search needs) (λ c κs. search needs) returns (λ c κs. search needs) (λ c κs. search needs)
+    (λ c κs. search needs) returns-2 (λ c κs. search needs) (λ c κs. search needs) returns-3 small-requires (λ c. search needs)
+    (λ c. search needs) large-requires (λ c. search needs) (λ c. search needs))
