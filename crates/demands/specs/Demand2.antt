@@ -1,0 +1,120 @@
+-- Demand 2: "Root labels are the hash tree of source document 000, with SHA-256 of FIPS 180-4 as its hash. A title is stored in the composed
+-- form of Unicode (NFC) within our repertoire. A table packed and unpacked is the same table, and a slip unpacked and packed is the same
+-- slip. Pruning keeps the root label, and replaces each chosen subtree by its label only."
+use Prim.Native.Nat.{ℕ, _≤_}
+use mathlib.Core.Bool.{Bool, true}
+use mathlib.Core.List.{List, [], _++_}
+use mathlib.Core.Option.{some}
+use mathlib.Core.Path.{_≡_}
+use lib.ListN.{length}
+use Rattle.bits.specs.Lists.{Below}
+use Rattle.trees.specs.Nodes.{Node, Run, inner, leaf, label, blocks}
+use Rattle.trees.specs.Places.{Place, nodeAt, stays, cut}
+use Rattle.trees.specs.PruneLaws.{cut-stays, cut-named}
+use Rattle.trees.specs.Rows.{rows, number}
+use Rattle.tables.specs.Refusals.{accepted}
+use Rattle.tables.specs.Records.{named}
+use Rattle.tables.specs.Tables.{Table}
+use Rattle.codec.specs.Writing.{slipOf}
+use Rattle.sha2.specs.Sha256 as Sha256
+use Rattle.sha2.specs.Blocks.{Octets, label-long, label-octets}
+use Rattle.titles.specs.Refusals as Titles
+use Rattle.titles.specs.Utf8.{encodes, decode}
+use Rattle.titles.specs.Repertoire.{allPlain}
+use Rattle.titles.specs.Nfc.{nfc}
+use Rattle.titles.specs.Compose.{composedText, acceptedWith, outcome}
+use Rattle.titles.specs.Titles.{title-nfc, accepted-nfc, equal-nfc}
+use Rattle.prune_rows.specs.Contracts.{pruned}
+use Rattle.slips.specs.Answers.{taken}
+use Rattle.slips.specs.Check.{readingOf, checkOf}
+use Rattle.slips.specs.Columns.{over}
+use Rattle.slips.specs.Pack.{rowsOf, answerOf, packOf}
+use Rattle.slips.specs.Unpack.{tableOf, handedOf, unpackOf}
+use Rattle.slips.specs.SlipTrees.{SlipOf, check-complete, check-unique}
+use Rattle.slips.specs.RoundTrips.{slip-again, table-again}
+use Rattle.held.specs.SlipTree.{slipTree}
+use Rattle.held.specs.ByteTrees.{accepted-slip}
+use Rattle.prune.specs.Prune.{pruneOf}
+use Rattle.prune.specs.PruneTheorems.{PrunedAs, prune-told, prune-checks}
+
+-- SHA-256 gives bytes
+pub sha-bytes : (x : List ℕ) → Below 256 (Sha256.label x)
+unfolding Octets
+sha-bytes x = label-octets x
+
+-- s is the slip of the tree n
+abbrev pub Slip : List ℕ → Node → Type 0
+Slip s n = SlipOf Sha256.label composedText s n
+
+-- "Root labels are the hash tree of source document 000": an accepted slip is that of one well-formed tree, and its label and blocks are told
+pub record Labelled (s : List ℕ) : Type 0 where
+  pub tree : Node
+  pub is : Slip s tree
+  pub only : (n : Node) → Slip s n → n ≡ tree
+  pub answer : checkOf Sha256.label composedText s ≡ taken (length s) (blocks Sha256.label tree) (label Sha256.label tree)
+
+pub labels : (s : List ℕ) → Below 256 s → checkOf Sha256.label composedText s .number ≡ accepted → Labelled s
+labels s bytes e =
+    let x = accepted-slip Sha256.label composedText s bytes e in
+    record {
+      tree = slipTree s;
+      is = x;
+      only = λ n y. check-unique Sha256.label composedText s n (slipTree s) y x;
+      answer = check-complete Sha256.label composedText s (slipTree s) x;
+    }
+
+-- and the slip of every well-formed tree is accepted with them
+pub labels-told : (s : List ℕ) (n : Node) → Slip s n
+    → checkOf Sha256.label composedText s ≡ taken (length s) (blocks Sha256.label n) (label Sha256.label n)
+labels-told s n x = check-complete Sha256.label composedText s n x
+
+-- "A title is stored in the composed form of Unicode (NFC) within our repertoire": what is accepted is written in NFC
+pub nfc-stored : (title out : List ℕ) → outcome title out .answer .number ≡ Titles.accepted
+    → (allPlain (nfc (decode title)) ≡ true) × (outcome title out ≡ acceptedWith (encodes (nfc (decode title))) out)
+nfc-stored title out e = accepted-nfc title out e
+
+-- a title within the limit whose NFC is composed text is accepted where that has room
+pub nfc-accepted : (title out : List ℕ) → length title ≤ Titles.maxBytes → allPlain (nfc (decode title)) ≡ true
+    → length (encodes (nfc (decode title))) ≤ length out → outcome title out ≡ acceptedWith (encodes (nfc (decode title))) out
+nfc-accepted title out under plain room = title-nfc title out under plain room
+
+-- so É as one letter and as E and a mark are stored alike
+pub nfc-alike : (x y out : List ℕ) → length x ≤ Titles.maxBytes → length y ≤ Titles.maxBytes → nfc (decode x) ≡ nfc (decode y)
+    → outcome x out .answer .number ≡ Titles.accepted → outcome y out ≡ outcome x out
+nfc-alike x y out ux uy e z = equal-nfc x y out ux uy e z
+
+-- "a slip unpacked and packed is the same slip"
+pub slip-same : (s : List ℕ) → Below 256 s → checkOf Sha256.label composedText s .number ≡ accepted → (out : List ℕ) → length s ≤ length out
+    → packOf Sha256.label composedText (tableOf (readingOf s .rows)) out ≡ record { answer = checkOf Sha256.label composedText s; bytes = over s out }
+slip-same s bytes e out room =
+    slip-again Sha256.label composedText s (slipTree s) (accepted-slip Sha256.label composedText s bytes e) out room
+
+-- "A table packed and unpacked is the same table": the slip that the packer writes hands out that table
+pub table-same : (t : Table) (room : ℕ) → Below 256 (t .values) → answerOf Sha256.label composedText t room .number ≡ accepted
+    → (b : Table) → unpackOf Sha256.label composedText (slipOf (rowsOf t)) b ≡ handedOf (checkOf Sha256.label composedText (slipOf (rowsOf t))) t b
+table-same t room bytes e b = table-again Sha256.label composedText t room bytes e b
+
+-- "Pruning keeps the root label": what is written is the slip of the tree cut at the named nodes, with the same label, and never longer
+pub pruning : (s list out : List ℕ) → Below 256 s → pruneOf Sha256.label composedText s list out .answer .number ≡ accepted
+    → PrunedAs Sha256.label composedText label-long sha-bytes s list out
+pruning s list out bytes e = prune-told Sha256.label composedText label-long sha-bytes s list out bytes e
+
+-- and it checks, with what was reported
+pub pruning-checks : (s list out : List ℕ) → Below 256 s → pruneOf Sha256.label composedText s list out .answer .number ≡ accepted
+    → checkOf Sha256.label composedText (slipOf (rows (pruned Sha256.label list (slipTree s)))) ≡ pruneOf Sha256.label composedText s list out .answer
+pruning-checks s list out bytes e = prune-checks Sha256.label composedText label-long sha-bytes s list out bytes e
+
+module _ (list : List ℕ) (n : Node) (p : Place) where
+  -- the places that the list names
+  abbrev pub names : Place → Bool
+  names q = named list (number n q)
+
+  -- "and replaces each chosen subtree by its label only": a named internal node under no other is dangling with its label
+  pub chosen : (r : Run) → nodeAt n p ≡ some (inner r) → stays names p ≡ true → named list (number n p) ≡ true
+      → nodeAt (pruned Sha256.label list n) p ≡ some (leaf 0 (label Sha256.label (inner r)))
+  chosen r e k here = cut-named Sha256.label names n p r e k here
+
+  -- a node under no named one stays at its place, pruned at the names below it
+  pub staying : (m : Node) → nodeAt n p ≡ some m → stays names p ≡ true
+      → nodeAt (pruned Sha256.label list n) p ≡ some (cut Sha256.label (λ q. names (p ++ q)) m)
+  staying m e k = cut-stays Sha256.label names n p m e k

@@ -1,0 +1,51 @@
+-- "For every public call and every input, refused or not, the contract leaves one possible answer and one possible content of the buffers."
+-- Each theorem takes the call's contract twice.
+use Prim.Native.Nat.{ℕ}
+use mathlib.Core.List.{List}
+use mathlib.Core.Path.{_≡_, sym, _∙_}
+use denote.Ref.{RefT, ptr, now}
+use Rattle.tables.specs.Tables.{Table}
+use Rattle.sha2.specs.Sha256 as Sha256
+use Rattle.titles.specs.Compose.{composedText, Met}
+use Rattle.titles.specs.declared.Composed.{Composed}
+use Rattle.lookup.specs.Lookup.{lookup, Handed}
+use Rattle.slips.specs.declared.answer.Answer.{Answer}
+use Rattle.slips.specs.Check.{checkOf}
+use Rattle.slips.specs.Pack.{Packs, packOf}
+use Rattle.slips.specs.Unpack.{Leaves, unpackOf}
+use Rattle.slips.specs.OneAnswer as Slips
+use Rattle.prune.specs.Prune.{pruneOf}
+use Rattle.join.specs.Join.{joinOf}
+
+module _ (s u list out : List ℕ) {r q : Answer} where
+  pub check-one : r ≡ checkOf Sha256.label composedText s → q ≡ checkOf Sha256.label composedText s → r ≡ q
+  check-one e f = Slips.check-one e f
+
+  module _ {a b : List ℕ} where
+    pub prune-one : Packs (pruneOf Sha256.label composedText s list out) r a → Packs (pruneOf Sha256.label composedText s list out) q b → (r ≡ q) × (a ≡ b)
+    prune-one e f = Slips.pack-one e f
+
+    pub join-one : Packs (joinOf Sha256.label composedText s u out) r a → Packs (joinOf Sha256.label composedText s u out) q b → (r ≡ q) × (a ≡ b)
+    join-one e f = Slips.pack-one e f
+
+    pub pack-one : (t : Table) → Packs (packOf Sha256.label composedText t out) r a → Packs (packOf Sha256.label composedText t out) q b → (r ≡ q) × (a ≡ b)
+    pack-one t e f = Slips.pack-one e f
+
+  pub unpack-one :
+      (b : Table) {t c l v t′ c′ l′ v′ : List ℕ}
+      → Leaves (unpackOf Sha256.label composedText s b) r t c l v
+      → Leaves (unpackOf Sha256.label composedText s b) q t′ c′ l′ v′
+      → (r ≡ q) × (t ≡ t′) × (c ≡ c′) × (l ≡ l′) × (v ≡ v′)
+  unpack-one b e f = Slips.unpack-one e f
+
+module _ (kind : ℕ) (t u : Table) where
+  pub holder-one : {h k : ℕ} → h ≡ lookup kind t u .holder → k ≡ lookup kind t u .holder → h ≡ k
+  holder-one e f = e ∙ sym f
+
+  -- the part lies at one place and has one content
+  pub find-one : (first second : RefT (List ℕ)) {r q : RefT (List ℕ)} → Handed (lookup kind t u) first second r → Handed (lookup kind t u) first second q
+      → (ptr r ≡ ptr q) × (now r ≡ now q)
+  find-one first second e f = (e .place ∙ sym (f .place), e .bytes ∙ sym (f .bytes))
+
+pub compose-one : (title out : List ℕ) {r q : Composed} {a b : List ℕ} → Met title out r a → Met title out q b → (r ≡ q) × (a ≡ b)
+compose-one title out e f = (e .answered ∙ sym (f .answered), e .written ∙ sym (f .written))
