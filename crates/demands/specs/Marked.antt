@@ -1,5 +1,5 @@
 -- "The ● cases form a single proved table": each line of document 01's list with a ●.
-use Prim.Native.Nat.{ℕ, _≤_, _%_}
+use Prim.Native.Nat.{ℕ, _≤_}
 use mathlib.Core.Bool.{Bool}
 use mathlib.Core.List.{List, [], _∷_}
 use mathlib.Core.Path.{_≡_, refl}
@@ -17,6 +17,7 @@ use Rattle.slips.specs.Check.{paddingFits, settled, headerOf, bodyOf, checkOf}
 use Rattle.slips.specs.Cases.{bare, bare-accepted, bare-padding-set, bare-cut, no-nodes, other-edition, no-bytes}
 use Rattle.held.specs.Sent.{still}
 use Rattle.join.specs.Join.{clashed, joinedOf, joinOf}
+use Rattle.label_cases.specs.Values.{copies}
 
 -- a line of the list
 pub data Line : Type 0 where
@@ -26,12 +27,9 @@ pub data Line : Type 0 where
   refuses : List ℕ → ℕ → ℕ → Line
   clashing : List ℕ → List ℕ → ℕ → ℕ → Line
 
--- "a label of 32 copies of prelabel length modulo 256"
-abbrev pub copies : List ℕ → List ℕ
-copies x = replicate 32 (length x % 256)
-
 -- what it says: a title composes to bytes wherever they have room, or is refused with a number at a place; a slip is accepted with blocks
--- and a label, or refused, whatever the label function; two slips clash at two entries under the label function above
+-- and a label, or refused, whatever the label function; two slips clash at two entries under "a label of 32 copies of prelabel length
+-- modulo 256"
 abbrev pub Says : Line → Type 0
 Says (composes title bytes) = (out : List ℕ) → length bytes ≤ length out → outcome title out ≡ acceptedWith bytes out
 Says (untitled title k p) = (out : List ℕ) → outcome title out ≡ refusedWith (refusal k p) out
