@@ -1,4 +1,4 @@
-//! Reads a slip from standard input and prints what it discloses, or its refusal: the program `show`, over the library.
+//! Reads a slip from standard input and prints what it discloses, or its refusal: `show`, over the library.
 use std::io::{self, Read, Write};
 
 const EDITION: usize = 1;
