@@ -13,8 +13,9 @@ use Rattle.bits.specs.Bits.{bitsOf, octets}
 use Rattle.bits.specs.ByteLaws.{length-octets}
 use Rattle.trees.specs.Rows.{Entry}
 use Rattle.tables.specs.Tables.{entryOf, entries, firstBad, sum}
+use Rattle.tables.specs.TablesLaws.{length-entries}
 use Rattle.codec.specs.Reading.{Read, short, readOne, Reading, add, after, readAll}
-use Rattle.codec.specs.TableLaws.{entries-snoc, length-entries, sum-snoc, form-snoc}
+use Rattle.codec.specs.TableLaws.{entries-snoc, sum-snoc, form-snoc}
 use Rattle.codec.specs.Reader.{headBits, RowIs, FillAsks, FillGives}
 use Rattle.codec.specs.declared.row.Row.{Row}
 

@@ -15,8 +15,9 @@ use Rattle.bits.specs.declared.pen.Pen.{Pen}
 use Rattle.trees.specs.Rows.{Entry}
 use Rattle.tables.specs.Limits.{edition, editionBits, countBits}
 use Rattle.tables.specs.Tables.{entryOf, entries, rowFits, firstBad, sum}
+use Rattle.tables.specs.TablesLaws.{length-entries}
 use Rattle.codec.specs.Writing.{entryBits, allBits, slipBits, slipOf}
-use Rattle.codec.specs.TableLaws.{entries-off, form-off, sum-off, length-entries}
+use Rattle.codec.specs.TableLaws.{entries-off, form-off, sum-off}
 use Rattle.codec.specs.MeasureLaws.{slip-bits-long, slip-bytes-long}
 use Rattle.codec.specs.Reader.{headBits}
 use Rattle.codec.specs.Writer.{Columns, WriteAsks, WriteGives}

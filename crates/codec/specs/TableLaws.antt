@@ -2,7 +2,7 @@
 use mathlib.Core.Path.{_≡_, refl, sym, ap, ap₂, _∙_}
 use mathlib.Core.Bool.{Bool, true, false, cond, _&&_, _||_}
 use mathlib.Core.List.{List, [], _∷_, _++_}
-use Prim.Native.Nat.{ℕ, suc, _+_, _≤_, _<_}
+use Prim.Native.Nat.{ℕ, _+_, _≤_, _<_}
 use native.Mathlib.Numerals.{add-one}
 use native.Mathlib.Omega.{arith}
 use borrow.Author.Tests.{leb-true, eqb-true, le-leb}
@@ -90,12 +90,6 @@ entries-snoc (x ∷ ts) (y ∷ cs) (z ∷ ls) vs t c l v a b d e =
     ap₂ (λ (f : Entry) (r : List Entry). f ∷ r) (ap (entryOf x y) (take-append-le z vs v (omega arith)))
     (ap (entries (ts ++ (t ∷ [])) (cs ++ (c ∷ [])) (ls ++ (l ∷ []))) (drop-append-le z vs v (omega arith))
     ∙ entries-snoc ts cs ls (drop z vs) t c l v (omega arith) (omega arith) (omega (arith, length-drop z vs)) e)
-
-pub length-entries : (ts cs ls vs : List ℕ) → length cs ≡ length ts → length ls ≡ length ts → length (entries ts cs ls vs) ≡ length ts
-length-entries [] cs ls vs a b = refl
-length-entries (t ∷ ts) [] ls vs a b = absurd (omega arith)
-length-entries (t ∷ ts) (c ∷ cs) [] vs a b = absurd (omega arith)
-length-entries (t ∷ ts) (c ∷ cs) (l ∷ ls) vs a b = ap suc (length-entries ts cs ls (drop l vs) (omega arith) (omega arith))
 
 pub sum-snoc : (ls : List ℕ) (l : ℕ) → sum (ls ++ (l ∷ [])) ≡ sum ls + l
 unfolding sum

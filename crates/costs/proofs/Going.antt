@@ -7,7 +7,7 @@ use lib.ListN.{length, take, drop, set, getD, length-set, length-take, length-dr
 use lib.Seq.{length-take-le, take-take, drop-set-lt, getD-take}
 use Rattle.trees.specs.Rules.{maxValue, maxChildren}
 use Rattle.trees.specs.Rows.{kids, below}
-use Rattle.costs.specs.Lists.{next-cons, one-more, part}
+use Rattle.lists.specs.Lists.{next-cons, one-more, part}
 use Rattle.costs.specs.Costs.{pieceSize, rowBlocks, costsFrom, Enough}
 use Rattle.costs.specs.CostsLaws.{costs-tree}
 use Rattle.costs.specs.SafeLaws.{enough-tree, table-low}
@@ -82,7 +82,7 @@ module _ (counts lengths room before stack costs : List ℕ) (d i c l : ℕ) (g 
     walked =
         let long : length (take d stack) - c ≡ d - c = omega (arith, length-take-le d stack (omega (arith, h .in-stack))) in
         let kid : kids c (take d stack) ≡ take (d - (d - c)) (drop (d - c) stack) =
-        ap (λ (n : ℕ). drop n (take d stack)) long ∙ sym (part stack (d - c) d (omega arith)) in
+        ap (λ (n : ℕ). drop n (take d stack)) long ∙ sym (part stack (d - c) d (omega arith) refl) in
         let old : below c (take d stack) ≡ take (d - c) stack =
         ap (λ (n : ℕ). take n (take d stack)) long ∙ take-take (d - c) d stack (omega arith) in
         ap₂ (λ (x y : List ℕ). costsFrom x y (take d stack)) (h .counts-next) (h .lengths-next)

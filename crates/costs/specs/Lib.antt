@@ -1,5 +1,4 @@
 -- The blocks that each row's prelabel takes, from the counts and lengths alone.
-pub mod Lists
 pub mod Costs
 pub mod Records
 pub mod CostsLaws

@@ -5,7 +5,7 @@ use mathlib.Core.List.{List}
 use lib.ListN.{length, drop, getD, drop-of-length-le}
 use Rattle.tables.specs.Tables.{sum}
 use Rattle.engine.specs.Waiting.{greatest}
-use Rattle.engine.specs.Lists.{next-cons}
+use Rattle.lists.specs.Lists.{next-cons}
 
 pub greatest-next : (l : List ℕ) (i : ℕ) → i < length l → greatest (drop i l) ≡ max (getD l i 0) (greatest (drop (i + 1) l))
 unfolding greatest

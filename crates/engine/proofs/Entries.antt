@@ -12,7 +12,7 @@ use Rattle.trees.specs.Rows.{formed}
 use lib.ListN.{length, take, drop, getD, drop-of-length-le}
 use lib.Seq.{drop-drop}
 use Rattle.tables.specs.Tables.{entryOf, entries, internalRow, danglingRow, pairRow, rowFits, firstBad}
-use Rattle.engine.specs.Lists.{next-cons}
+use Rattle.lists.specs.Lists.{next-cons}
 
 -- the row i, and the rows behind it
 pub entries-next :

@@ -10,7 +10,7 @@ use Rattle.trees.specs.Nodes.{piece}
 use Rattle.trees.specs.Rows.{Tag, headOf, kids, below}
 use Rattle.tables.specs.Tables.{sum}
 use Rattle.engine.specs.Waiting.{kindOf, heightOf, sizeOf, pieces, lastOf, Laid}
-use Rattle.engine.specs.Lists.{filled, part, front}
+use Rattle.lists.specs.Lists.{filled, part, front}
 use Rattle.engine.proofs.Pieces.{pieces-append, pieces-split, length-split, length-pieces}
 
 -- The last k nodes of a stack in the areas.

@@ -9,7 +9,7 @@ use Rattle.trees.specs.Nodes.{Head, piece, prelabel}
 use Rattle.trees.specs.Rows.{Tag, headOf, highestOf, kids, below}
 use Rattle.tables.specs.Tables.{sum}
 use Rattle.engine.specs.Waiting.{kindOf, heightOf, sizeOf, pieces, greatest, Columns}
-use Rattle.engine.specs.Lists.{tail-part}
+use Rattle.lists.specs.Lists.{tail-part}
 
 prelabel-append : (hs ks : List Head) → prelabel (hs ++ ks) ≡ prelabel hs ++ prelabel ks
 prelabel-append [] ks = refl

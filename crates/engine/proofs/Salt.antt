@@ -13,7 +13,7 @@ use Rattle.trees.specs.Nodes.{Head}
 use Rattle.trees.specs.Rules.{saltType, saltBytes, isSalt, saltLong, salted}
 use Rattle.trees.specs.Rows.{Tag, headOf}
 use Rattle.engine.specs.Waiting.{kindOf, sizeOf}
-use Rattle.engine.specs.Lists.{next-cons}
+use Rattle.lists.specs.Lists.{next-cons}
 use Rattle.engine.specs.Tests.{and-false, or-true}
 
 -- the types of the children behind the first: none is a salt, and without a salt before them none is above it

@@ -13,7 +13,7 @@ use Rattle.trees.specs.Rows.{Tag, left}
 use Rattle.engine.specs.Engine.{told, noLabel, oneTree}
 use Rattle.engine.specs.Waiting.{kindOf, pieces}
 use Rattle.engine.specs.declared.judge.Judged.{Judged}
-use Rattle.engine.specs.Lists.{part}
+use Rattle.lists.specs.Lists.{part}
 
 -- the answer over whether one tree waits, and its label
 abbrev pub answer : Bool → ℕ → List ℕ → Judged

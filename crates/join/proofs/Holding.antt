@@ -1,12 +1,12 @@
 -- Two slips' tables in one set of columns.
-use Prim.Native.Nat.{ℕ, zero, suc, _+_, _-_, _*_, _≤_, _<_}
-use mathlib.Core.List.{List, [], _∷_, _++_, append-nil}
+use Prim.Native.Nat.{ℕ, _+_, _-_, _*_, _≤_, _<_}
+use mathlib.Core.List.{List, [], _++_, append-nil}
 use mathlib.Core.Path.{_≡_, sym, ap, _∙_}
-use native.Mathlib.Nat.{zero-add, suc-add}
 use native.Mathlib.Omega.{arith}
 use borrow.Rule.Slice.PartMut.{midOf, postOf, putMid, mid-len, post-is}
 use lib.ListN.{length, take, drop, getD, length-take}
-use lib.Seq.{length-take-le, take-nil, take-take, drop-at, take-at, drop-length, getD-take}
+use lib.Seq.{length-take-le, take-take, drop-at, take-at, drop-length, getD-take}
+use Rattle.lists.specs.Lists.{drop-take}
 use Rattle.trees.specs.Nodes.{Node, label}
 use Rattle.trees.specs.Rules.{labelBytes}
 use Rattle.tables.specs.Refusals.{accepted}
@@ -100,11 +100,6 @@ module _ (n : ℕ) (x y : List ℕ) (e : take n x ≡ take n y) where
   front-cell : (k : ℕ) → k < n → getD x k 0 ≡ getD y k 0
   front-cell k h = sym (getD-take n x k 0 h) ∙ ap (λ (l : List ℕ). getD l k 0) e ∙ getD-take n y k 0 h
 
-drop-part : (n m : ℕ) (l : List ℕ) → drop n (take (n + m) l) ≡ take m (drop n l)
-drop-part zero m l = ap (λ (k : ℕ). take k l) (zero-add m)
-drop-part (suc n) m [] = ap (drop (suc n)) (take-nil (suc n + m)) ∙ sym (take-nil m)
-drop-part (suc n) m (x ∷ l) = ap (λ (k : ℕ). drop (suc n) (take k (x ∷ l))) (suc-add n m) ∙ drop-part n m l
-
 -- a tree is held where the areas begin alike
 holds-kept : (H : List ℕ → List ℕ) (n : Node) (ts cs ls vs bs ks ws zs gs : List ℕ) → Holds H n ts cs ls vs bs ks
     → take (sum ls) ws ≡ take (sum ls) vs
@@ -131,9 +126,9 @@ holds-kept H n ts cs ls vs bs ks ws zs gs h v b k =
   where
     label-kept : (i : ℕ) → i < length ts → take labelBytes (drop (labelBytes * i) zs) ≡ take labelBytes (drop (labelBytes * i) bs)
     label-kept i q =
-        sym (drop-part (labelBytes * i) labelBytes zs)
+        sym (drop-take (labelBytes * i) labelBytes zs)
         ∙ ap (drop (labelBytes * i)) (front-part (labelBytes * length ts) zs bs b (labelBytes * i + labelBytes) (omega (arith, q)))
-        ∙ drop-part (labelBytes * i) labelBytes bs
+        ∙ drop-take (labelBytes * i) labelBytes bs
 
 -- the second tree's columns stand behind the first's
 module _ {s u : List ℕ} {a b : Opened} {types counts lengths area values labels costs : List ℕ} {y : Areas}
@@ -163,7 +158,7 @@ module _ {s u : List ℕ} {a b : Opened} {types counts lengths area values label
       record {
         one = rw (cut types (y .types) (k .types-kept), cut counts (y .counts) (k .counts-kept), cut lengths (y .lengths) (k .lengths-kept)) one;
         two =
-            rw (drop-part (a .rows) (b .rows) (y .types), drop-part (a .rows) (b .rows) (y .counts), drop-part (a .rows) (b .rows) (y .lengths), used)
+            rw (drop-take (a .rows) (b .rows) (y .types), drop-take (a .rows) (b .rows) (y .counts), drop-take (a .rows) (b .rows) (y .lengths), used)
             (k .held .tree f .holds);
       }
 

@@ -8,7 +8,7 @@ use lib.ListN.{length, take, getD, set}
 use lib.Seq.{getD-set-same, getD-set-other, take-suc}
 use borrow.Author.Count.{below-more}
 use Rattle.tables.specs.Tables.{sum}
-use Rattle.join_rows.specs.Lists.{sum-append}
+use Rattle.tables.specs.TablesLaws.{sum-append}
 use Rattle.join_rows.specs.Columns.{back, Started}
 
 pub back-stop : (s : List ℕ) (k : ℕ) → back s k 0 ≡ 0

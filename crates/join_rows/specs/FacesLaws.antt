@@ -10,7 +10,7 @@ use Rattle.trees.specs.RowsLaws.{length-rows, length-rows-in}
 use Rattle.trees.specs.RowLabels.{labelsOf, labelsIn, costsOf, costsIn}
 use Rattle.trees.specs.StackLaws.{length-heads}
 use Rattle.tables.specs.Tables.{sum}
-use Rattle.join_rows.specs.Lists.{sum-append}
+use Rattle.tables.specs.TablesLaws.{sum-append}
 use Rattle.join_rows.specs.Faces.{Face, ofInner, entryOfFace, costOfFace, headOfFace, faces, facesIn}
 
 module _ (H : List ℕ → List ℕ) where

@@ -11,7 +11,8 @@ use Rattle.trees.specs.Join.{ok, join}
 use Rattle.trees.specs.Rows.{rows}
 use Rattle.tables.specs.Tables.{sum}
 use Rattle.join_rows.specs.declared.gather.Gathered.{Gathered}
-use Rattle.join_rows.specs.Lists.{Names, sum-append, sum-part, names-length}
+use Rattle.tables.specs.TablesLaws.{sum-append, sum-part}
+use Rattle.join_rows.specs.Lists.{Names, names-length}
 use Rattle.join_rows.specs.Faces.{Face, noFace, bytesOfFace, faces}
 use Rattle.join_rows.specs.Columns.{valueAt, Surveyed}
 use Rattle.join_rows.specs.Plans.{Two}

@@ -8,7 +8,7 @@ use Rattle.trees.specs.Lists.{same}
 use Rattle.trees.specs.Nodes.{Node, Run, inner, leaf, nil, cons, Head, prelabel, heads}
 use Rattle.trees.specs.Join.{Joint, ok, clash, JointRun, okRun, clashAt, wrap, both, join, joinRun}
 use Rattle.tables.specs.Tables.{sum}
-use Rattle.join_rows.specs.Lists.{sum-append}
+use Rattle.tables.specs.TablesLaws.{sum-append}
 use Rattle.join_rows.specs.Faces.{Face, ofInner, faces, facesIn}
 
 -- w weighs a face, and the same of every internal node

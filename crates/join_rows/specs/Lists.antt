@@ -1,13 +1,12 @@
 -- Definitions and laws of plain lists and numbers. Nothing here knows of trees or tables.
 use mathlib.Core.Path.{_≡_, refl, sym, ap, _∙_, subst}
 use mathlib.Core.List.{List, [], _∷_, _++_, append-assoc}
-use Prim.Native.Nat.{ℕ, zero, suc, _+_, _≤_, _<_}
-use native.Mathlib.Nat.{suc-add, add-suc, add-zero, zero-add}
+use Prim.Native.Nat.{ℕ, zero, suc, _+_, _<_}
+use native.Mathlib.Nat.{suc-add, add-suc, add-zero}
 use native.Mathlib.Omega.{arith}
-use lib.ListN.{length, take, getD, length-append}
+use lib.ListN.{length, getD, length-append}
 use lib.Seq.{getD-at}
 use Rattle.trees.specs.Lists.{append-cancel, cons-head}
-use Rattle.tables.specs.Tables.{sum}
 
 -- the n numbers from a on
 abbrev pub upto : ℕ → ℕ → List ℕ
@@ -42,18 +41,6 @@ backwards-inj {A = A} x y e = go x y (sym (length-backwards x) ∙ ap length e �
         let t : x ≡ y = go x y (omega arith) (p .0) in
         let h : a ≡ b = cons-head (p .1) in
         cc
-
-pub sum-append : (x y : List ℕ) → sum (x ++ y) ≡ sum x + sum y
-unfolding sum
-sum-append [] y = sym (zero-add (sum y))
-sum-append (a ∷ x) y = let h = sum-append x y in omega arith
-
--- the sum of the front of a list, and of one element more, is no more than the whole
-pub sum-part : (l : List ℕ) (k : ℕ) → k < length l → sum (take k l) + getD l k 0 ≤ sum l
-unfolding sum
-sum-part [] k h = absurd (omega arith)
-sum-part (a ∷ l) zero h = omega arith
-sum-part (a ∷ l) (suc k) h = let g = sum-part l k (omega arith) in omega arith
 
 module _ {A : Type 0} (d : A) where
   -- the elements of a list from place b on begin with xs

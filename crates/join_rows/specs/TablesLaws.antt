@@ -13,6 +13,7 @@ use Rattle.trees.specs.Rules.{labelBytes}
 use Rattle.trees.specs.Rows.{Entry, tip}
 use Rattle.trees.specs.RowsLaws.{length-rows}
 use Rattle.tables.specs.Tables.{entryOf, entries, rowFits, firstBad, sum}
+use Rattle.tables.specs.TablesLaws.{length-entries}
 use Rattle.tables.specs.Records.{Holds}
 use Rattle.join_rows.specs.Faces.{Face, ofLeaf, ofInner, noFace, entryOfFace, countOfFace, bytesOfFace, costOfFace, headOfFace, faces}
 use Rattle.join_rows.specs.FacesLaws.{rows-faces, labels-faces, costs-faces}
@@ -32,12 +33,6 @@ entry-at (t ∷ ts) (c ∷ cs) (l ∷ ls) vs zero h d e = refl
 entry-at (t ∷ ts) (c ∷ cs) (l ∷ ls) vs (suc k) h d e =
     entry-at ts cs ls (drop l vs) k (omega arith) (omega arith) (omega arith)
     ∙ ap (λ (v : List ℕ). entryOf (getD ts k 0) (getD cs k 0) (take (getD ls k 0) v)) (drop-drop (sum (take k ls)) l vs)
-
-pub length-entries : (ts cs ls vs : List ℕ) → length cs ≡ length ts → length ls ≡ length ts → length (entries ts cs ls vs) ≡ length ts
-length-entries [] cs ls vs d e = refl
-length-entries (t ∷ ts) [] ls vs d e = absurd (omega arith)
-length-entries (t ∷ ts) (c ∷ cs) [] vs d e = absurd (omega arith)
-length-entries (t ∷ ts) (c ∷ cs) (l ∷ ls) vs d e = ap suc (length-entries ts cs ls (drop l vs) (omega arith) (omega arith))
 
 -- where no row is bad, each has the form
 pub row-formed : (i : ℕ) (ts cs ls : List ℕ) → firstBad i ts cs ls ≡ i + length ts → length cs ≡ length ts → length ls ≡ length ts

@@ -11,7 +11,7 @@ use borrow.Author.Tests.{ltb-true, ltb-false}
 use Rattle.trees.specs.Nodes.{Node, inner, leaf, size}
 use Rattle.trees.specs.Rules.{labelBytes}
 use Rattle.tables.specs.Tables.{sum}
-use Rattle.join_rows.specs.Lists.{sum-append, sum-part}
+use Rattle.tables.specs.TablesLaws.{sum-append, sum-part}
 use Rattle.join_rows.specs.Faces.{noFace, faces}
 use Rattle.join_rows.specs.FacesLaws.{length-faces}
 use Rattle.join_rows.specs.Columns.{Surveyed, Ready}

@@ -1,18 +1,25 @@
 -- The pruning list, one number at a time.
 use Prim.Native.Nat.{ℕ, suc, _+_, _-_, _≤_, _<_}
-use mathlib.Core.Bool.{true, false, _&&_, and-false}
-use mathlib.Core.Path.{_≡_, sym, ap, _∙_}
+use mathlib.Core.Bool.{Bool, true, false, _&&_, and-false}
+use mathlib.Core.Path.{_≡_, refl, sym, ap, _∙_}
 use mathlib.Core.List.{List, _∷_}
 use native.Mathlib.Numerals.{add-one}
 use native.Mathlib.Omega.{arith}
 use lib.Dec.{leb, ltb}
 use lib.ListN.{length, drop, getD, drop-of-length-le, List·getD-eq-default}
 use lib.Seq.{drop-cons}
-use borrow.Author.Tests.{lt-leb, le-leb, lt-ltb, le-ltb}
+use borrow.Author.Tests.{lt-leb, le-leb, lt-ltb, le-ltb, ltb-true, ltb-false}
 use Rattle.tables.specs.Records.{named, firstFault}
 use Rattle.prune_rows.specs.Steps.{Before}
 use Rattle.prune_rows.specs.ListRule.{Rising, clean-rule, named-at, named-not}
-use Rattle.prune_rows.specs.Lists.{below-or}
+
+-- one number is below another, or it is not
+below-or {ℓ} : {C : Type ℓ} (a b : ℕ) → (a < b → C) → (b ≤ a → C) → C
+below-or {C = C} a b f g = go (ltb a b) refl
+  where
+    go : (t : Bool) → ltb a b ≡ t → C
+    go true e = f (ltb-true a b e)
+    go false e = g (ltb-false a b e)
 
 -- whether a number may follow
 module _ (x low : ℕ) (counts : List ℕ) where

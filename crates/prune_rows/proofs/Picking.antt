@@ -9,10 +9,10 @@ use lib.Seq.{take-suc, length-take-le}
 use Rattle.trees.specs.Rules.{labelBytes}
 use Rattle.trees.specs.Rows.{Entry, tip}
 use Rattle.tables.specs.Tables.{entryOf, entries, sum}
-use Rattle.prune_rows.specs.Lists.{sum-append}
+use Rattle.tables.specs.TablesLaws.{sum-append, length-entries}
 use Rattle.prune_rows.specs.Picked.{picked, rowBy, costBy, labelRows}
 use Rattle.prune_rows.specs.PickedLaws.{picked-step, picked-none, length-label-rows, label-rows-at}
-use Rattle.prune_rows.specs.TableLaws.{length-entries, entries-at, row-fits}
+use Rattle.prune_rows.specs.TableLaws.{entries-at, row-fits}
 use Rattle.prune_rows.specs.Contracts.{Written}
 use Rattle.prune_rows.specs.Steps.{Puts, Turn, Pickable, Picks}
 use Rattle.prune_rows.proofs.Putting.{written-none}

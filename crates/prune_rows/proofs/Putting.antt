@@ -9,7 +9,8 @@ use lib.Seq.{take-all, take-length, length-take-le, paste, length-paste, take-pa
 use Rattle.trees.specs.Rules.{labelBytes}
 use Rattle.trees.specs.Rows.{Entry}
 use Rattle.tables.specs.Tables.{entryOf, entries, rowFits, firstBad, sum}
-use Rattle.prune_rows.specs.Lists.{filled, sum-append}
+use Rattle.lists.specs.Lists.{one-more}
+use Rattle.tables.specs.TablesLaws.{sum-append}
 use Rattle.prune_rows.specs.TableLaws.{entries-append, formed-more}
 use Rattle.prune_rows.specs.Marks.{gone, kept}
 use Rattle.prune_rows.specs.Picked.{costBy}
@@ -43,9 +44,9 @@ module _ (t c l rows used : ℕ) (part ts cs ls vs last : List ℕ) (p : Puts t 
 
   pub written-more : Adds rows used ts cs ls vs (entryOf t c part ∷ []) (rows + 1) (used + l) (set ts rows t) (set cs rows c) (set ls rows l) last
   written-more es w =
-      let types-are : take (rows + 1) (set ts rows t) ≡ take rows ts ++ (t ∷ []) = filled ts rows t (p .types-room) in
-      let counts-are : take (rows + 1) (set cs rows c) ≡ take rows cs ++ (c ∷ []) = filled cs rows c (p .counts-room) in
-      let lengths-are : take (rows + 1) (set ls rows l) ≡ take rows ls ++ (l ∷ []) = filled ls rows l (p .lengths-room) in
+      let types-are : take (rows + 1) (set ts rows t) ≡ take rows ts ++ (t ∷ []) = one-more ts rows t (p .types-room) in
+      let counts-are : take (rows + 1) (set cs rows c) ≡ take rows cs ++ (c ∷ []) = one-more cs rows c (p .counts-room) in
+      let lengths-are : take (rows + 1) (set ls rows l) ≡ take rows ls ++ (l ∷ []) = one-more ls rows l (p .lengths-room) in
       let types-long : length (take rows ts) ≡ rows = length-take-le rows ts (w .types-room) in
       let counts-long : length (take rows cs) ≡ length (take rows ts) = length-take-le rows cs (w .counts-room) ∙ sym types-long in
       let lengths-long : length (take rows ls) ≡ length (take rows ts) = length-take-le rows ls (w .lengths-room) ∙ sym types-long in

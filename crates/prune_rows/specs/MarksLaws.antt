@@ -2,14 +2,13 @@
 use Prim.Native.Nat.{ℕ, zero, suc, _+_, _<_}
 use mathlib.Core.Bool.{Bool, true, false, cond}
 use mathlib.Core.Path.{_≡_, refl, sym, ap, ap₂, _∙_}
-use mathlib.Core.List.{List, [], _∷_, _++_, map, append-assoc}
+use mathlib.Core.List.{List, [], _∷_, _++_, map, append-assoc, map-append}
 use native.Mathlib.Nat.{add-zero}
 use native.Mathlib.Omega.{arith}
 use lib.ListN.{length, getD, replicate, length-append, length-map, length-replicate, replicate-append-replicate}
 use Rattle.trees.specs.Nodes.{Node, Run, inner, leaf, nil, cons, count, size, sizes}
 use Rattle.trees.specs.Rows.{Entry, node, rows, rowsIn}
 use Rattle.trees.specs.RowsLaws.{length-rows, length-rows-in}
-use Rattle.prune_rows.specs.Lists.{map-append}
 use Rattle.prune_rows.specs.Marks.{state, gone, kept, cutOff, children, Walk, markBy, stepBack, walk, marksOf, marksIn}
 
 shift : (i k : ℕ) → i + suc k ≡ i + 1 + k

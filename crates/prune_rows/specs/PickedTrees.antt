@@ -14,7 +14,7 @@ use Rattle.trees.specs.RowsLaws.{length-rows, length-rows-in}
 use Rattle.trees.specs.RowLabels.{labelsOf, labelsIn, costsOf, costsIn}
 use Rattle.trees.specs.RowLabelsLaws.{length-labels, length-labels-in, length-costs, length-costs-in}
 use Rattle.tables.specs.Tables.{sum}
-use Rattle.prune_rows.specs.Lists.{sum-append}
+use Rattle.tables.specs.TablesLaws.{sum-append}
 use Rattle.prune_rows.specs.Marks.{gone, kept, cutOff, marksOf, marksIn}
 use Rattle.prune_rows.specs.MarksLaws.{length-marks, length-marks-in}
 use Rattle.prune_rows.specs.Picked.{picked, rowBy, costBy}

@@ -16,6 +16,7 @@ use Rattle.trees.specs.NumbersLaws.{rows-cut}
 use Rattle.trees.specs.RowLabels.{labelsOf, costsOf}
 use Rattle.trees.specs.RowLabelsLaws.{length-labels, length-costs}
 use Rattle.tables.specs.Tables.{entryOf, entries, sum}
+use Rattle.tables.specs.TablesLaws.{length-entries}
 use Rattle.tables.specs.Records.{Holds, named, firstFault}
 use Rattle.prune_rows.specs.Marks.{children, Walk, atEnd, walk, marksOf}
 use Rattle.prune_rows.specs.Picked.{picked, rowBy, costBy, labelRows}
@@ -23,7 +24,7 @@ use Rattle.prune_rows.specs.Contracts.{Written, pruned}
 use Rattle.prune_rows.specs.MarksLaws.{walk-marks, cut-off-named}
 use Rattle.prune_rows.specs.PickedLaws.{picked-take, picked-agree, length-label-rows, label-rows-at}
 use Rattle.prune_rows.specs.PickedTrees.{picked-rows, picked-costs}
-use Rattle.prune_rows.specs.TableLaws.{length-entries, entries-counts, entries-at}
+use Rattle.prune_rows.specs.TableLaws.{entries-counts, entries-at}
 use Rattle.prune_rows.specs.ListRule.{named-inner}
 
 -- a row looks at its label and its blocks only where it has children

@@ -14,13 +14,6 @@ pub children-of : (t c : ℕ) (v : List ℕ) → children (entryOf t c v) ≡ c
 children-of t zero v = refl
 children-of t (suc c) v = refl
 
--- one entry a row
-pub length-entries : (ts cs ls vs : List ℕ) → length cs ≡ length ts → length ls ≡ length ts → length (entries ts cs ls vs) ≡ length ts
-length-entries [] cs ls vs p q = refl
-length-entries (t ∷ ts) [] ls vs p q = absurd (omega arith)
-length-entries (t ∷ ts) (c ∷ cs) [] vs p q = absurd (omega arith)
-length-entries (t ∷ ts) (c ∷ cs) (l ∷ ls) vs p q = ap suc (length-entries ts cs ls (drop l vs) (omega arith) (omega arith))
-
 -- the column of counts is what the entries name
 pub entries-counts : (ts cs ls vs : List ℕ) → length cs ≡ length ts → length ls ≡ length ts → map children (entries ts cs ls vs) ≡ cs
 entries-counts [] [] ls vs p q = refl

@@ -4,7 +4,7 @@ use crate::marks::Mark;
 use tables::form::cell;
 use tables::limits::Slip;
 ghost use mathlib.Core.Path.{_≡_};
-ghost use mathlib.Core.List.{List, [], _∷_};
+ghost use mathlib.Core.List.{List};
 ghost use Prim.Native.Nat.{ℕ, _+_, _^_, _≤_, _<_};
 ghost use lib.ListN.{length};
 ghost use Rattle.trees.specs.Rules.{labelBytes};

@@ -10,7 +10,7 @@ use lib.Seq.{drop-drop}
 use Rattle.sha2.specs.Kind.{Kind, size}
 use Rattle.sha2.specs.Compression.{compress, chain}
 use Rattle.sha2.specs.Sha256.{sha256}
-use Rattle.sha2.proofs.Lists.{same-part, same-front}
+use Rattle.lists.specs.Lists.{same-part, same-front}
 
 pub chain-more :
     (h t : List ℕ) {v u : List ℕ} (i from to : ℕ)

@@ -9,7 +9,8 @@ use lib.Seq.{getD-take}
 use Rattle.sha2.specs.Words.{number, words}
 use Rattle.sha2.specs.Compression.{following, schedule, round, rounds}
 use Rattle.sha2.specs.Sha256.{sha256, constants}
-use Rattle.sha2.proofs.Lists.{filled, part-suc}
+use Rattle.lists.specs.Lists.{filled}
+use Rattle.sha2.proofs.Lists.{part-suc}
 
 four :
     (l : List ℕ) (at : ℕ)

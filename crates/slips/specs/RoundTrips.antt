@@ -18,9 +18,9 @@ use Rattle.trees.specs.StackLaws.{complete-tree}
 use Rattle.trees.specs.StackSound.{sound-one, built-well-formed}
 use Rattle.tables.specs.Refusals.{accepted, tooLong, notOneTree, noRoom}
 use Rattle.tables.specs.Tables.{Table, entryOf, entries, rowFits, firstBad, columnsFit, sum}
-use Rattle.tables.specs.TablesLaws.{Formed}
+use Rattle.tables.specs.TablesLaws.{Formed, length-entries}
 use Rattle.codec.specs.Writing.{slipOf}
-use Rattle.codec.specs.TableLaws.{fits-internal, fits-dangling, fits-pair, length-entries}
+use Rattle.codec.specs.TableLaws.{fits-internal, fits-dangling, fits-pair}
 use Rattle.codec.specs.Proper.{AllProper}
 use Rattle.codec.specs.ProperLaws.{table-proper}
 use Rattle.engine.specs.Engine.{oneTree, rootLabel}

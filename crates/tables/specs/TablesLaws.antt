@@ -1,8 +1,8 @@
 -- What the tests of a table's form tell, and where a row's value lies.
 use Prim.Native.Nat.{ℕ, zero, suc, _+_, _≤_, _<_}
-use mathlib.Core.Path.{_≡_, refl, _∙_}
+use mathlib.Core.Path.{_≡_, refl, ap, _∙_}
 use mathlib.Core.Bool.{Bool, true, false, _&&_, _||_}
-use mathlib.Core.List.{List, [], _∷_}
+use mathlib.Core.List.{List, [], _∷_, _++_}
 use native.Mathlib.Omega.{arith}
 use lib.Dec.{leb, eqb}
 use lib.ListN.{length, getD, take, drop}
@@ -96,12 +96,24 @@ pub formed-row :
     → rowFits (getD (t .types) j 0) (getD (t .counts) j 0) (getD (t .lengths) j 0) ≡ true
 formed-row t f = rows-fit 0 (t .types) (t .counts) (t .lengths) (omega (arith, f .rows))
 
+pub sum-append : (x y : List ℕ) → sum (x ++ y) ≡ sum x + sum y
+unfolding sum
+sum-append [] y = omega arith
+sum-append (a ∷ x) y = let h : sum (x ++ y) ≡ sum x + sum y = sum-append x y in omega arith
+
 -- a row's value lies within the sum of lengths
 pub sum-part : (ls : List ℕ) (j : ℕ) → j < length ls → sum (take j ls) + getD ls j 0 ≤ sum ls
 unfolding sum
 sum-part [] j h = absurd (omega arith)
 sum-part (l ∷ ls) zero h = omega arith
 sum-part (l ∷ ls) (suc j) h = omega (arith, sum-part ls j (omega arith))
+
+-- one entry a row
+pub length-entries : (ts cs ls vs : List ℕ) → length cs ≡ length ts → length ls ≡ length ts → length (entries ts cs ls vs) ≡ length ts
+length-entries [] cs ls vs p q = refl
+length-entries (t ∷ ts) [] ls vs p q = absurd (omega arith)
+length-entries (t ∷ ts) (c ∷ cs) [] vs p q = absurd (omega arith)
+length-entries (t ∷ ts) (c ∷ cs) (l ∷ ls) vs p q = ap suc (length-entries ts cs ls (drop l vs) (omega arith) (omega arith))
 
 -- the entry of a row: its part of the area begins at the sum of the lengths before it
 pub entries-at :

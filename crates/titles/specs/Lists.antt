@@ -5,11 +5,8 @@ use Prim.Native.Nat.{ℕ, suc, _+_, _<_}
 use native.Mathlib.Numerals.{add-one}
 use native.Mathlib.Omega.{arith}
 use lib.ListN.{length, take, drop, getD, set, length-set}
-use lib.Seq.{take-suc-set, take-suc, drop-cons, set-at, length-take-le, append-snoc}
-
--- one store after the first n
-pub take-store : (s : List ℕ) (n a : ℕ) → n < length s → take (n + 1) (set s n a) ≡ take n s ++ (a ∷ [])
-take-store s n a h = rw (add-one n, take-suc-set s n a h)
+use lib.Seq.{take-suc, drop-cons, set-at, length-take-le, append-snoc}
+use Rattle.lists.specs.Lists.{one-more}
 
 -- two stores after the first n
 pub take-stores :
@@ -20,13 +17,9 @@ take-stores s n a b h =
     let within : n + 1 < length (set s n a) = rw length-set h in
     let two : n + 2 ≡ (n + 1) + 1 = omega arith in
     ap (λ (k : ℕ). take k (set (set s n a) (n + 1) b)) two
-    ∙ take-store (set s n a) (n + 1) b within
-    ∙ ap (λ (l : List ℕ). l ++ (b ∷ [])) (take-store s n a (omega arith))
+    ∙ one-more (set s n a) (n + 1) b within
+    ∙ ap (λ (l : List ℕ). l ++ (b ∷ [])) (one-more s n a (omega arith))
     ∙ append-assoc (take n s) (a ∷ []) (b ∷ [])
-
--- one more element, from the code's i + 1
-pub drop-next : (s : List ℕ) (i : ℕ) → i < length s → drop i s ≡ getD s i 0 ∷ drop (i + 1) s
-drop-next s i h = rw (add-one i) (drop-cons s i 0 h)
 
 -- a copy of the first i bytes, and one more
 pub copied :

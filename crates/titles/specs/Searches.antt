@@ -6,14 +6,14 @@ use Prim.Native.Nat.{ℕ, _+_, _≤_, _<_}
 use native.Mathlib.Omega.{arith}
 use lib.Dec.{eqb}
 use lib.ListN.{length, getD, drop, drop-of-length-le}
-use Rattle.titles.specs.Lists.{drop-next}
+use Rattle.lists.specs.Lists.{next-cons}
 use Rattle.titles.specs.Repertoire.{member}
 use Rattle.titles.specs.Pairs.{Pair, pair, found, flat, pairs}
 use Rattle.titles.specs.Scan.{sought}
 
 pub member-next : (s : List ℕ) (i c : ℕ) → i < length s → member (drop i s) c ≡ (eqb (getD s i 0) c || member (drop (i + 1) s) c)
 unfolding member
-member-next s i c h = rw (drop-next s i h)
+member-next s i c h = rw (next-cons s i 0 h)
 
 pub member-end : (s : List ℕ) (i c : ℕ) → length s ≤ i → member (drop i s) c ≡ false
 unfolding member
@@ -27,7 +27,7 @@ unfolding sought
 sought-next t i l m h =
     let two : (i + 1) + 1 ≡ i + 2 = omega arith in
     let three : (i + 2) + 1 ≡ i + 3 = omega arith in
-    rw (drop-next t i (omega arith), drop-next t (i + 1) (omega arith), two, drop-next t (i + 2) h, three)
+    rw (next-cons t i 0 (omega arith), next-cons t (i + 1) 0 (omega arith), two, next-cons t (i + 2) 0 h, three)
 
 pub sought-end : (t : List ℕ) (i l m : ℕ) → length t ≤ i → sought (drop i t) l m ≡ 0
 unfolding sought

@@ -6,7 +6,7 @@ use borrow.Author.Needs.{needs}
 use denote.Ref.{now}
 use lib.ListN.{length, drop, length-take, length-drop}
 use Rattle.trees.specs.Rules.{labelBytes}
-use Rattle.engine.specs.Lists.{put-is}
+use Rattle.lists.specs.Lists.{put-is}
 use Rattle.engine.proofs.Hashing.{counted, parent-fits, parent-label, parent-room, node-grows}
 use Rattle.engine.proofs.stack.hash.Statement.{statement}
 use Rattle.engine.proofs.stack.hash.Tie as tie

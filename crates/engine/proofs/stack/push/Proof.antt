@@ -9,7 +9,7 @@ use lib.ListN.{length, take, drop, length-set, length-take, length-drop}
 use lib.Seq.{paste, length-paste}
 use borrow.Rule.Slice.PartMut.{putMid}
 use Rattle.trees.specs.Rows.{Tag}
-use Rattle.engine.specs.Lists.{put-is}
+use Rattle.lists.specs.Lists.{put-is}
 use Rattle.engine.proofs.Laid.{headed, length-headed, piece-put, laid-push}
 use Rattle.engine.proofs.stack.push.Statement.{statement}
 use Rattle.engine.proofs.stack.push.Tie as tie

@@ -3,7 +3,7 @@ use denote.Ref.{now}
 use mathlib.Core.Path.{_≡_, refl}
 use native.Mathlib.Omega.{arith}
 use lib.ListN.{length}
-use Rattle.prune_rows.specs.Lists.{put-is}
+use Rattle.lists.specs.Lists.{put-is}
 use Rattle.prune_rows.proofs.Putting.{written-more}
 use borrow.Author.Needs.{needs}
 use Rattle.prune_rows.proofs.rows.put.Statement.{statement}

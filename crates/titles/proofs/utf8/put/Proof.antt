@@ -4,7 +4,8 @@ use native.Mathlib.Omega.{arith}
 use borrow.Author.Needs.{needs}
 use lib.ListN.{length, length-set}
 use Rattle.titles.specs.Bounds.{width-1, width-2, encode-1, encode-2}
-use Rattle.titles.specs.Lists.{take-store, take-stores}
+use Rattle.lists.specs.Lists.{one-more}
+use Rattle.titles.specs.Lists.{take-stores}
 use Rattle.titles.specs.Utf8.{follow}
 use Rattle.titles.proofs.utf8.put.Statement.{statement}
 use Rattle.titles.proofs.utf8.put.Tie as tie
@@ -17,7 +18,7 @@ returns c =
     let a = c .before .args in
     let h : a .c < 128 = c .if1 .taken in
     let room : a .n < length (a .text .now) = omega (arith, width-1 (a .c) h) in
-    (omega (arith, width-1 (a .c) h), rw (encode-1 (a .c) h) (take-store (a .text .now) (a .n) (a .c) room))
+    (omega (arith, width-1 (a .c) h), rw (encode-1 (a .c) h) (one-more (a .text .now) (a .n) (a .c) room))
 
 slice-write-text-2 : tie.Need-slice-write-text-2
 slice-write-text-2 c = omega (arith, width-2 (c .before .args .c) (c .if1 .left) (omega arith))

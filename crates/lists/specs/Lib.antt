@@ -1,0 +1,2 @@
+-- Laws of lists that more than one crate uses.
+pub mod Lists
