@@ -3,7 +3,7 @@
 As a program, bench/tasks.py writes crates/call_bench/stdin and stdout: some small tasks, and the line that the Rust twin
 makes of them.
 """
-import hashlib, os, random, subprocess, sys
+import hashlib, os, random, subprocess
 
 from slips import KINDS, bits, damaged, entries, internal, packed, pair, record
 
