@@ -1,4 +1,4 @@
--- Demand 1: "However broken .. each refusal has its number and place", and "a refused call writes to no buffer".
+-- Demand 1: "Each refusal has its number and place, and a refused call writes to no buffer."
 use Prim.Native.Nat.{ℕ, _+_, _<_}
 use mathlib.Core.Bool.{Bool, true, _&&_, _||_}
 use mathlib.Core.List.{List}

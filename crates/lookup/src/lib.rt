@@ -1,5 +1,5 @@
 // The lookup of document 01: a value of a type in the first of two unpacked records, or else in the second.
-mod held;
+pub mod held;
 
 use held::Spot;
 ghost use mathlib.Core.Path.{_≡_};

@@ -4,7 +4,8 @@ use tables::refusals::Refusal;
 ghost use mathlib.Core.Path.{_≡_};
 ghost use Rattle.slips.specs.Answers as Answers;
 
-// A refusal has its number and place, and zeros beside them.
+// A refusal has its number and place, and zeros beside them. Laid out as in C, for the static library.
+#[repr(C)]
 pub struct Answer {
     pub number: usize,
     pub place: usize,

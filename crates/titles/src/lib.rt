@@ -8,7 +8,8 @@ ghost use mathlib.Core.Path.{_≡_};
 ghost use Rattle.titles.specs.Compose.{Met, composedText};
 
 // The composer's answer: a refusal has its number and place and length 0, an acceptance number and
-// place 0 and the length written.
+// place 0 and the length written. Laid out as in C, for the static library.
+#[repr(C)]
 pub struct Composed {
     pub number: u32,
     pub place: usize,

@@ -1,0 +1,18 @@
+// The calls that a task may name.
+use slips::answer::Answer;
+use slips::calls;
+
+const CHECK: usize = 0;
+
+const PRUNE: usize = 1;
+
+// Any other number is a join.
+pub fn answered(call: usize, s: &[u8], u: &[u8], list: &[u16], out: &mut [u8]) -> Answer {
+    if call == CHECK {
+        return calls::check(s);
+    }
+    if call == PRUNE {
+        return prune::prune(s, list, out);
+    }
+    join::join(s, u, out)
+}

@@ -1,0 +1,66 @@
+// A task: five numbers of 16 bits, the more significant byte first, then its two parts. The parts are a slip and either
+// a pruning list, two bytes a name, or a second slip.
+use libc::STDIN_FILENO;
+use lines::parts;
+ghost use Prim.Native.Nat.{_≤_};
+
+const HEAD: usize = 10;
+
+pub struct Task {
+    pub call: usize,
+    pub times: usize,
+    pub first: usize,
+    pub second: usize,
+    pub room: usize,
+}
+
+// The next task; none at the end of the input.
+pub enum Next {
+    Is(Task),
+    End,
+}
+
+pub fn announced() -> Next {
+    let mut head = [0u8; HEAD];
+    if io::read_full(STDIN_FILENO, &mut head) < HEAD {
+        return Next::End;
+    }
+    Next::Is(Task {
+        call: both(head[0], head[1]),
+        times: both(head[2], head[3]),
+        first: both(head[4], head[5]),
+        second: both(head[6], head[7]),
+        room: both(head[8], head[9]),
+    })
+}
+
+// Reads a part of n bytes to the front of an area, and answers how many came.
+pub fn part(area: &mut [u8], n: usize) -> usize {
+    let room = parts::byte_room(area, n);
+    io::read_full(STDIN_FILENO, &mut area[..room])
+}
+
+// Puts the names that a part holds into cells, and answers how many there are.
+pub fn names(part: &[u8], cells: &mut [u16]) -> usize {
+    let mut i = 0;
+    while i < part.len() / 2 {
+        if cells.len() <= i {
+            return i;
+        }
+        cells[i] = both(part[2 * i], part[2 * i + 1]) as u16;
+        i += 1;
+    }
+    i
+}
+
+fn both(high: u8, low: u8) -> usize
+    ensures { λ r. ⌜ r ≤ 65535 ⌝ }
+{
+    wide(high) * 256 + wide(low)
+}
+
+fn wide(b: u8) -> usize
+    ensures { λ r. ⌜ r ≤ 255 ⌝ }
+{
+    b as usize
+}

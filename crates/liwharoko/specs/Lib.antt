@@ -1,0 +1,2 @@
+-- What the static library hands out.
+pub mod Parts
