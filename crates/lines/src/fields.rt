@@ -23,6 +23,12 @@ enum Put {
     Bad,
 }
 
+// What a word is that should be a number below 65,536.
+pub enum Whole {
+    Is(u16),
+    Not,
+}
+
 // A number that stands in a text, and where it ends.
 struct Numeral {
     value: u32,
@@ -129,15 +135,23 @@ fn list(field: &[u8], area: &mut [u16; AREA], from: usize) -> Put {
 }
 
 fn one(field: &[u8], area: &mut [u16; AREA], from: usize) -> Put {
-    let n = numeral_at(field, 0);
-    if n.next == 0 || n.next != field.len() {
+    let Whole::Is(value) = whole_of(field) else {
         return Put::Bad;
-    }
+    };
     if AREA <= from {
         return Put::Bad;
     }
-    area[from] = n.value as u16;
+    area[from] = value;
     Put::To(from + 1)
+}
+
+// The number that a word is from its first byte to its last.
+pub fn whole_of(word: &[u8]) -> Whole {
+    let n = numeral_at(word, 0);
+    if n.next == 0 || n.next != word.len() {
+        return Whole::Not;
+    }
+    Whole::Is(n.value as u16)
 }
 
 // The number from `at` on. Where there is none, or one over 65,535, it ends where it starts.

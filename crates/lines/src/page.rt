@@ -1,5 +1,6 @@
-// A page of text for standard output. `at` bytes stand on it; each function puts its text behind them and
+// A page of text, for standard output as a rule. `at` bytes stand on it; each function puts its text behind them and
 // answers how many stand there then. A full page is written out and begun anew.
+use libc::STDERR_FILENO;
 use libc::STDOUT_FILENO;
 ghost use Prim.Native.Nat.{_<_};
 
@@ -17,12 +18,17 @@ pub fn byte(page: &mut [u8; BYTES], at: usize, b: u8) -> usize {
 
 // Writes out what stands on the page.
 pub fn flush(page: &[u8; BYTES], at: usize) {
-    write_front(page, at);
+    write_front(STDOUT_FILENO, page, at);
 }
 
-fn write_front(page: &[u8], at: usize) {
+// Writes it to standard error.
+pub fn complain(page: &[u8; BYTES], at: usize) {
+    write_front(STDERR_FILENO, page, at);
+}
+
+fn write_front(fd: i32, page: &[u8], at: usize) {
     if at <= page.len() {
-        io::write_all(STDOUT_FILENO, &page[..at]);
+        io::write_all(fd, &page[..at]);
     }
 }
 
@@ -34,6 +40,21 @@ pub fn word(page: &mut [u8; BYTES], at: usize, text: &[u8]) -> usize {
         i += 1;
     }
     n
+}
+
+// A name as it was given, but for `?` in the place of each control byte: it stays on its line.
+pub fn name(page: &mut [u8; BYTES], at: usize, text: &[u8]) -> usize {
+    let mut n = at;
+    let mut i = 0;
+    while i < text.len() {
+        n = byte(page, n, plain(text[i]));
+        i += 1;
+    }
+    n
+}
+
+fn plain(b: u8) -> u8 {
+    if b < 32 || b == 127 { b'?' } else { b }
 }
 
 pub fn decimal(page: &mut [u8; BYTES], at: usize, number: usize) -> usize {

@@ -1,4 +1,6 @@
 // Parts of an area of bytes or of cells.
+ghost use Prim.Native.Nat.{_≤_, _<_};
+ghost use lib.ListN.{length};
 ghost use Rattle.io.specs.Counts.{Counts};
 
 // From one place up to another; nothing where those are not in order, or past the area's end.
@@ -18,6 +20,45 @@ pub fn cells(area: &[u16], from: usize, to: usize) -> &[u16] {
         }
     }
     &area[..0]
+}
+
+// The number in a cell, 0 past the last.
+pub fn cell(area: &[u16], i: usize) -> usize
+    ensures { λ r. ⌜ r < 65536 ⌝ }
+{
+    if i < area.len() { wide(area[i]) } else { 0 }
+}
+
+fn wide(cell: u16) -> usize
+    ensures { λ r. ⌜ r < 65536 ⌝ }
+{
+    cell as usize
+}
+
+// Where a part of n bytes ends that starts at `at`: not behind the area's end.
+pub fn end(area: &[u8], at: usize, n: usize) -> usize
+    ensures { λ r. ⌜ r ≤ length (now (area .entry)) ⌝ }
+{
+    if area.len() <= at {
+        return area.len();
+    }
+    if area.len() - at < n {
+        return area.len();
+    }
+    at + n
+}
+
+// Where the value of a row starts in the area that has them end to end.
+pub fn start(area: &[u8], lengths: &[u16], row: usize) -> usize
+    ensures { λ r. ⌜ r ≤ length (now (area .entry)) ⌝ }
+{
+    let mut at = 0;
+    let mut i = 0;
+    while i < row {
+        at = end(area, at, cell(lengths, i));
+        i += 1;
+    }
+    at
 }
 
 // How many there are at the start of the area: as many as asked for, or all.
