@@ -1,5 +1,4 @@
 // The word functions of FIPS 180-4, sections 3.2 and 4.1.2.
-use std::num::wrapping_add_u32;
 ghost use mathlib.Core.Path.{_≡_};
 ghost use Prim.Native.Nat.{_+_, _≤_, _<_};
 ghost use lib.ListN.{length, take, drop};
