@@ -1,16 +1,28 @@
 -- Laws of words spread out to bytes, and of the padding, in the code's own terms.
-use Prim.Native.Nat.{ℕ, suc, _+_, _-_, _*_, _≤_, _<_}
+use Prim.Native.Nat.{ℕ, zero, suc, _+_, _-_, _*_, _≤_, _<_}
 use mathlib.Core.Path.{_≡_, refl, sym, ap, _∙_}
 use mathlib.Core.List.{List, [], _∷_, _++_, append-nil, append-assoc}
+use native.Mathlib.Nat.{zero-add, suc-add}
 use native.Mathlib.Numerals.{add-one}
 use native.Mathlib.Omega.{arith}
-use lib.ListN.{length, take, drop, getD, set, length-set, length-append, length-drop}
+use lib.ListN.{length, take, drop, getD, set, replicate, length-set, length-append, length-drop}
 use lib.Seq.{take-suc, take-append-add, take-all, take-length, set-at, append-snoc, paste, take-paste}
-use Rattle.sha2.specs.Words.{bytes, spread}
+use Rattle.compression.specs.Words.{bytes, spread}
+use Rattle.compression.specs.Sha256.{sha256}
 use Rattle.sha2.specs.Padding.{closing}
 use Rattle.sha2.specs.Blocks.{length-bytes}
-use Rattle.sha2.specs.Sha256.{sha256}
-use Rattle.sha2.proofs.Lists.{blank, drop-blank, take-blank}
+
+abbrev blank : ℕ → List ℕ
+blank n = replicate n 0
+
+-- zeros behind zeros, and before them
+drop-blank : (n m : ℕ) → drop n (blank (n + m)) ≡ blank m
+drop-blank zero m = rw zero-add
+drop-blank (suc n) m = rw suc-add (drop-blank n m)
+
+take-blank : (n m : ℕ) → take n (blank (n + m)) ≡ blank n
+take-blank zero m = refl
+take-blank (suc n) m = rw (suc-add, take-blank n m)
 
 spread-snoc : (k : ℕ) (l : List ℕ) (x : ℕ) → spread k (l ++ (x ∷ [])) ≡ spread k l ++ bytes k x
 unfolding spread

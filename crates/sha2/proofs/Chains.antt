@@ -1,28 +1,13 @@
 -- Laws of the chain of hash values over a text's blocks, for every kind.
-use Prim.Native.Nat.{ℕ, zero, suc, _+_, _-_, _*_}
+use Prim.Native.Nat.{ℕ, zero, suc, _+_, _*_}
 use mathlib.Core.Path.{_≡_, refl}
 use mathlib.Core.List.{List}
 use native.Mathlib.Nat.{add-zero, add-suc, mul-suc, mul-add}
-use native.Mathlib.Numerals.{add-one}
-use native.Mathlib.Omega.{arith}
 use lib.ListN.{take, drop}
 use lib.Seq.{drop-drop}
-use Rattle.sha2.specs.Kind.{Kind, size}
-use Rattle.sha2.specs.Compression.{compress, chain}
-use Rattle.sha2.specs.Sha256.{sha256}
+use Rattle.compression.specs.Kind.{Kind, size}
+use Rattle.compression.specs.Compression.{chain}
 use Rattle.lists.specs.Lists.{same-part, same-front}
-
-pub chain-more :
-    (h t : List ℕ) {v u : List ℕ} (i from to : ℕ)
-    → from ≡ 64 * i
-    → to ≡ from + 64
-    → v ≡ chain sha256 h i t
-    → u ≡ compress sha256 v (take (to - from) (drop from t))
-    → u ≡ chain sha256 h (i + 1) t
-unfolding chain
-chain-more h t i from to e f p q =
-    let n : to - from ≡ 64 = omega arith in
-    rw (add-one, q, p, n, e)
 
 module _ (s : Kind) (h : List ℕ) where
   -- n blocks look at no more than n blocks

@@ -1,6 +1,4 @@
 -- Laws that the functions' proofs cite.
-pub mod Lists
-pub mod Rounds
 pub mod Bytes
 pub mod Chains
 pub mod Holding

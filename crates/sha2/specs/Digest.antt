@@ -1,9 +1,9 @@
 -- FIPS 180-4, section 6.2 (and 6.4): the digest of a text.
 use Prim.Native.Nat.{ℕ}
 use mathlib.Core.List.{List}
-use Rattle.sha2.specs.Kind.{Kind}
-use Rattle.sha2.specs.Words.{spread}
-use Rattle.sha2.specs.Compression.{chain}
+use Rattle.compression.specs.Kind.{Kind}
+use Rattle.compression.specs.Words.{spread}
+use Rattle.compression.specs.Compression.{chain}
 use Rattle.sha2.specs.Padding.{padded, blocks}
 
 -- the hash value after all blocks of the padded text, as bytes

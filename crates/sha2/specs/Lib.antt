@@ -1,7 +1,4 @@
--- SHA-2 as FIPS 180-4 defines it, over the width of a word, and what is proved of it.
-pub mod Words
-pub mod Kind
-pub mod Compression
+-- SHA-2 of a text as FIPS 180-4 defines it, over the width of a word, and what is proved of it.
 pub mod Padding
 pub mod Digest
 pub mod Sha256

@@ -3,9 +3,10 @@ use Prim.Native.Nat.{ℕ, _+_, _*_, _<_}
 use mathlib.Core.List.{List, [], _∷_, _++_, append-assoc, append-nil}
 use mathlib.Core.Path.{_≡_, sym, subst}
 use lib.ListN.{length, take, drop}
-use Rattle.sha2.specs.Kind.{Kind, size}
-use Rattle.sha2.specs.Compression.{chain}
-use Rattle.sha2.specs.Sha256.{sha256, label}
+use Rattle.compression.specs.Kind.{Kind, size}
+use Rattle.compression.specs.Compression.{chain}
+use Rattle.compression.specs.Sha256.{sha256}
+use Rattle.sha2.specs.Sha256.{label}
 use Rattle.sha2.specs.declared.digest.Digest.{Digest}
 
 -- A hash value h, a tail and a length hold the text t: h is the hash value after t's whole blocks, and the tail begins with

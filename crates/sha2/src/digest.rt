@@ -1,38 +1,20 @@
 // The running digest: one small record that grows with each part of a text.
-use crate::compression;
 use crate::lent;
 use crate::octets;
+use crate::padding;
 ghost use mathlib.Core.Path.{_≡_};
 ghost use mathlib.Core.List.{[]};
-ghost use Prim.Native.Nat.{_+_, _-_, _^_, _≤_, _<_};
-ghost use lib.ListN.{length, take};
+ghost use Prim.Native.Nat.{_+_, _^_, _≤_, _<_};
+ghost use lib.ListN.{length};
 ghost use lib.Seq.{paste};
 ghost use Rattle.sha2.specs.Running.{Holds, Grows, Ends};
-ghost use Rattle.sha2.specs.Padding.{closing};
 ghost use Rattle.sha2.specs.Sha256 as Sha256;
-ghost use Rattle.sha2.specs.Sha256.{sha256, start};
 
 // The hash value after the text's whole blocks, a tail that begins with what is left of it, and its length.
 pub struct Digest {
     pub state: [u32; 8],
     pub tail: [u8; 64],
     pub len: usize,
-}
-
-// Section 5.3.3.
-fn initial() -> [u32; 8]
-    ensures { λ r. ⌜ r ≡ start ⌝ }
-{
-    [
-        0x6a09e667,
-        0xbb67ae85,
-        0x3c6ef372,
-        0xa54ff53a,
-        0x510e527f,
-        0x9b05688c,
-        0x1f83d9ab,
-        0x5be0cd19,
-    ]
 }
 
 // The tail with a part put in at `at`.
@@ -45,26 +27,23 @@ fn filled(tail: [u8; 64], at: usize, part: &[u8]) -> [u8; 64]
     t
 }
 
-// What is left of the text, padded to one block or two: the length field ends at `end`.
-fn closed(tail: [u8; 64], rest: usize, end: usize, bits: u64) -> [u8; 128]
-    requires { ⌜ (rest < 64) × (rest + 9 ≤ end) × (end ≤ 128) ⌝ }
-    ensures { λ r. ⌜ take end r ≡ closing sha256 (take rest tail) (end - rest - 9) bits ⌝ }
-{
-    let mut area = [0u8; 128];
-    bytes::copy(&tail[..rest], &mut area);
-    area[rest] = 128;
-    let at = end - 8;
-    let length = octets::field(bits);
-    bytes::copy(&length, &mut area[at..]);
-    area
-}
-
 impl Digest {
+    // The state of FIPS 180-4, section 5.3.3.
     pub fn new() -> Digest
         ensures { λ r. ⌜ Holds r [] ⌝ }
     {
+        let state = [
+            0x6a09e667,
+            0xbb67ae85,
+            0x3c6ef372,
+            0xa54ff53a,
+            0x510e527f,
+            0x9b05688c,
+            0x1f83d9ab,
+            0x5be0cd19,
+        ];
         Digest {
-            state: initial(),
+            state,
             tail: [0u8; 64],
             len: 0,
         }
@@ -100,11 +79,11 @@ impl Digest {
         ensures { λ r. ⌜ Ends self r ⌝ }
     {
         let rest = self.len % 64;
-        let n = (rest + 72) / 64;
+        let n = padding::blocks(rest);
         let end = 64 * n;
         let bits = (self.len as u64) * 8;
         let tail = self.tail;
-        let area = closed(tail, rest, end, bits);
+        let area = padding::closed(tail, rest, end, bits);
         let state = self.state;
         let h = compression::chain(state, &area, n);
         octets::spread(h)

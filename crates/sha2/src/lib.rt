@@ -1,6 +1,5 @@
-// SHA-256 of FIPS 180-4: one block, and a running digest that takes a text part by part.
-pub mod compression;
+// SHA-256 of FIPS 180-4: padding, and a running digest that takes a text part by part.
 pub mod digest;
 pub mod lent;
 mod octets;
-mod words;
+pub mod padding;

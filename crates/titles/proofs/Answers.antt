@@ -5,14 +5,15 @@ use mathlib.Core.List.{List, _++_}
 use Prim.Native.Nat.{ℕ, _≤_, _<_}
 use lib.ListN.{length, take, drop}
 use lib.Dec.{ltb}
-use lib.Seq.{take-all}
+use lib.Seq.{take-all, take-length, length-take-le}
 use native.Mathlib.Omega.{arith}
 use borrow.Author.Tests.{lt-ltb, le-ltb, ltb-true, ltb-false}
-use Rattle.titles.specs.Tests.{either, refuted}
+use Rattle.unicode.specs.Tests.{either, refuted}
 use Rattle.titles.specs.declared.Composed.{Composed}
 use Rattle.titles.specs.Refusals.{accepted, outputShort, titleLong, maxBytes}
-use Rattle.titles.specs.Utf8.{decode}
-use Rattle.titles.specs.Compose.{accepts, text, refusal, acceptance, Outcome, outcome, Met}
+use Rattle.unicode.specs.Utf8.{decode}
+use Rattle.unicode.specs.Joining.{accepts}
+use Rattle.titles.specs.Compose.{text, refusal, acceptance, Outcome, outcome, Met}
 use Rattle.titles.specs.Outcomes.{long, refused, short, taken, judged-accepts, accepts-judged}
 use Rattle.titles.specs.Scan.{Scanned}
 
@@ -62,6 +63,10 @@ module _ (title out buffer : List ℕ) (r : Composed) (scanned : Scanned title r
         absurd (omega (arith, size, ap length (sym whole-buffer ∙ scanned .front zero))))
         (λ p. ltb-false (length buffer) (r .length) p)
 
+    -- what is copied of the buffer
+    pub part-long : r .length ≡ length (take (r .length) buffer)
+    part-long = sym (length-take-le (r .length) buffer in-buffer)
+
     pub met-short : (r′ : Composed) → length out < r .length → r′ ≡ refusal outputShort 0 → Met title out r′ out
     met-short r′ less e =
         met title out out r′ _
@@ -72,10 +77,10 @@ module _ (title out buffer : List ℕ) (r : Composed) (scanned : Scanned title r
     pub met-taken :
         (left : List ℕ)
         → r .length ≤ length out
-        → left ≡ take (r .length) buffer ++ drop (r .length) out
+        → left ≡ take (length (take (r .length) buffer)) (take (r .length) buffer) ++ drop (length (take (r .length) buffer)) out
         → Met title out r left
     met-taken left room e =
         met title out left r _
         (taken title (text title) out (le-ltb maxBytes (length title) under) all refl (rw size at room))
         whole
-        (e ∙ rw (scanned .front zero, size))
+        (e ∙ rw (take-length (take (r .length) buffer), length-take-le (r .length) buffer in-buffer, scanned .front zero, size))

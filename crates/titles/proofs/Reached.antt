@@ -7,12 +7,13 @@ use native.Mathlib.Omega.{arith}
 use lib.Dec.{eqb}
 use lib.ListN.{length, take, drop, drop-of-length-le}
 use borrow.Author.Tests.{ne-eqb}
-use Rattle.titles.specs.Utf8.{width, encode, encodes, front, decode}
-use Rattle.titles.specs.Repertoire.{plain}
-use Rattle.titles.specs.Compose.{joined, pieces, outs, composed, text, fault, refusal, acceptance, judged}
-use Rattle.titles.specs.Bounds.{at-least, at-most, width-2}
-use Rattle.titles.specs.Decoding.{decode-end}
-use Rattle.titles.specs.Rows.{joint}
+use Rattle.unicode.specs.Utf8.{width, encode, encodes, front, decode}
+use Rattle.unicode.specs.Repertoire.{plain}
+use Rattle.unicode.specs.Joining.{joined, pieces, outs, composed}
+use Rattle.titles.specs.Compose.{text, fault, refusal, acceptance, judged}
+use Rattle.unicode.specs.Bounds.{at-least, at-most, width-2}
+use Rattle.unicode.specs.Decoding.{decode-end}
+use Rattle.unicode.specs.Rows.{joint}
 use Rattle.titles.specs.Pieces.{from, bad-at, one-at, two-at, next-fits, mark-fits, mark-width}
 
 pub record Reached (s : List ℕ) (at n : ℕ) (room : List ℕ) : Type 0 where

@@ -5,10 +5,11 @@ use Prim.Native.Nat.{ℕ, _≤_}
 use native.Mathlib.Omega.{arith}
 use lib.ListN.{length}
 use Rattle.titles.specs.Refusals.{notUtf8, outsideRepertoire, looseMark}
-use Rattle.titles.specs.Utf8.{width, encode, encodes, within, low, high, tail, twoBytes, threeBytes, fourBytes, character, front, chars, decode}
-use Rattle.titles.specs.Repertoire.{member, marks, isMark, plain}
-use Rattle.titles.specs.Pairs.{found, pairs}
-use Rattle.titles.specs.Compose.{joined, pieces, outs, noneBad, accepts, composed, text, fault, refusal, judged, refusedWith, acceptedWith, outcome}
+use Rattle.unicode.specs.Utf8.{width, encode, encodes, within, low, high, tail, twoBytes, threeBytes, fourBytes, character, front, chars, decode}
+use Rattle.unicode.specs.Repertoire.{member, marks, isMark, plain}
+use Rattle.unicode.specs.Pairs.{found, pairs}
+use Rattle.unicode.specs.Joining.{joined, pieces, outs, noneBad, accepts, composed}
+use Rattle.titles.specs.Compose.{text, fault, refusal, judged, refusedWith, acceptedWith, outcome}
 use Rattle.titles.specs.Outcomes.{taken, refused}
 
 -- '45 CC 81 74 65 CC 81'

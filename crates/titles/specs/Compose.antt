@@ -1,52 +1,15 @@
 -- Document 01, 'Titles', refusals 11 and 17 to 20, 'Order': what the composer answers and leaves in the buffer, for every title.
 use Prim.Native.Nat.{ℕ, _+_}
 use mathlib.Core.Path.{_≡_}
-use mathlib.Core.Bool.{Bool, true, false, cond, not}
+use mathlib.Core.Bool.{Bool, cond, not}
 use mathlib.Core.List.{List, [], _∷_, _++_}
 use lib.Dec.{ltb, eqb}
 use lib.ListN.{length, drop}
 use Rattle.titles.specs.Refusals.{accepted, outputShort, titleLong, notUtf8, outsideRepertoire, looseMark, maxBytes}
-use Rattle.titles.specs.Utf8.{ill, width, encodes, decode}
-use Rattle.titles.specs.Repertoire.{isMark, plain, allPlain}
-use Rattle.titles.specs.Pairs.{found, pairs}
+use Rattle.unicode.specs.Utf8.{ill, width, encodes, decode}
+use Rattle.unicode.specs.Repertoire.{isMark, allPlain}
+use Rattle.unicode.specs.Joining.{joined, Piece, bad, one, two, pieces, accepts, composed}
 use Rattle.titles.specs.declared.Composed.{Composed}
-
--- 'A mark directly after a letter joins it': the joined letter, or 0
-unfoldable pub joined : ℕ → ℕ → ℕ
-joined l m = found pairs l m
-
--- what a title is read as: characters that stay, letters that a mark joins, and the first bad character, which ends it
-pub data Piece : Type 0 where
-  bad : (c : ℕ) → Piece
-  one : (c : ℕ) → Piece
-  two : (l m : ℕ) → Piece
-
--- 'A joined letter takes no further mark': a mark that joins nothing starts the next piece, and is bad there
-unfoldable pub pieces : List ℕ → List Piece
-pieces [] = []
-pieces (c ∷ []) = cond (plain c) (one c ∷ []) (bad c ∷ [])
-pieces (c ∷ (m ∷ cs)) =
-    cond (plain c) (cond (eqb (joined c m) 0) (one c ∷ pieces (m ∷ cs)) (two c m ∷ pieces cs)) (bad c ∷ [])
-
--- the characters that pieces leave
-unfoldable pub outs : List Piece → List ℕ
-outs [] = []
-outs (bad c ∷ ps) = []
-outs (one c ∷ ps) = c ∷ outs ps
-outs (two l m ∷ ps) = joined l m ∷ outs ps
-
-unfoldable pub noneBad : List Piece → Bool
-noneBad [] = true
-noneBad (bad c ∷ ps) = false
-noneBad (one c ∷ ps) = noneBad ps
-noneBad (two l m ∷ ps) = noneBad ps
-
--- lengths aside: every character of a title is taken; and what it composes to
-unfoldable pub accepts : List ℕ → Bool
-accepts cs = noneBad (pieces cs)
-
-unfoldable pub composed : List ℕ → List ℕ
-composed cs = outs (pieces cs)
 
 -- the composed bytes of a title
 unfoldable pub text : List ℕ → List ℕ

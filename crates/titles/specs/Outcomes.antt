@@ -8,13 +8,14 @@ use native.Mathlib.Omega.{arith}
 use lib.Dec.{ltb, eqb}
 use lib.ListN.{length, length-append}
 use borrow.Author.Tests.{le-ltb}
-use Rattle.titles.specs.Tests.{either, clash}
+use Rattle.unicode.specs.Tests.{either, clash}
 use Rattle.titles.specs.Refusals.{accepted, outputShort, titleLong, maxBytes}
-use Rattle.titles.specs.Utf8.{ill, width, encode, encodes, decode}
-use Rattle.titles.specs.Repertoire.{isMark}
-use Rattle.titles.specs.Decoding.{length-encode}
+use Rattle.unicode.specs.Utf8.{ill, width, encode, encodes, decode}
+use Rattle.unicode.specs.Repertoire.{isMark}
+use Rattle.unicode.specs.Decoding.{length-encode}
 use Rattle.titles.specs.declared.Composed.{Composed}
-use Rattle.titles.specs.Compose.{joined, Piece, bad, one, two, pieces, outs, noneBad, accepts, composed, text, fault, judged, acceptance, refusal, refusedWith, acceptedWith, outcome}
+use Rattle.unicode.specs.Joining.{joined, Piece, bad, one, two, pieces, outs, noneBad, accepts, composed}
+use Rattle.titles.specs.Compose.{text, fault, judged, acceptance, refusal, refusedWith, acceptedWith, outcome}
 
 -- over the limit
 pub long : (title out : List ℕ) → ltb maxBytes (length title) ≡ true → outcome title out ≡ refusedWith (refusal titleLong 0) out

@@ -8,15 +8,15 @@ use lib.Dec.{ltb, eqb}
 use lib.ListN.{length, getD, drop, length-drop, drop-of-length-le}
 use lib.Seq.{drop-drop}
 use borrow.Author.Tests.{ltb-true, ltb-false, eq-eqb, ne-eqb, eqb-true}
-use Rattle.titles.specs.Tests.{either}
-use Rattle.titles.specs.Utf8.{ill, width, character, front, decode}
-use Rattle.titles.specs.Repertoire.{plain, allPlain}
-use Rattle.titles.specs.Compose.{joined, Piece, bad, one, two, pieces}
-use Rattle.titles.specs.Bounds.{at-least, at-most, width-2, encode-2}
-use Rattle.titles.specs.Decoding.{decode-next, decode-end, front-fits}
-use Rattle.titles.specs.Sequences.{front-splits}
-use Rattle.titles.specs.Rows.{joint}
-use Rattle.titles.specs.Marks.{mark-within, plain-small}
+use Rattle.unicode.specs.Tests.{either}
+use Rattle.unicode.specs.Utf8.{ill, width, character, front, decode}
+use Rattle.unicode.specs.Repertoire.{plain, allPlain}
+use Rattle.unicode.specs.Joining.{joined, Piece, bad, one, two, pieces}
+use Rattle.unicode.specs.Bounds.{at-least, at-most, width-2, encode-2}
+use Rattle.unicode.specs.Decoding.{decode-next, decode-end, front-fits}
+use Rattle.unicode.specs.Sequences.{front-splits}
+use Rattle.unicode.specs.Rows.{joint}
+use Rattle.unicode.specs.Marks.{mark-within, plain-small}
 
 -- the pieces of a title from byte `at` on
 abbrev pub from : List ℕ → ℕ → List Piece

@@ -8,20 +8,21 @@ use lib.Dec.{ltb, eqb}
 use lib.ListN.{length, take, drop, length-append}
 use lib.Seq.{take-append-seam, take-at}
 use borrow.Author.Tests.{le-ltb, lt-ltb, ltb-false, eqb-true, eqb-false}
-use Rattle.titles.specs.Tests.{and-left, and-right, and-both, either}
+use Rattle.unicode.specs.Tests.{and-left, and-right, and-both, either}
 use Rattle.titles.specs.Refusals.{accepted, maxBytes}
 use Rattle.titles.specs.declared.Composed.{Composed}
-use Rattle.titles.specs.Utf8.{scalar, scalars, width, encode, encodes, decode}
-use Rattle.titles.specs.Repertoire.{isMark, plain, allPlain}
-use Rattle.titles.specs.Nfc.{nfc}
-use Rattle.titles.specs.Compose.{joined, accepts, composed, text, acceptedWith, Outcome, outcome, Met, composedText}
-use Rattle.titles.specs.Bounds.{at-least, at-most, width-2}
-use Rattle.titles.specs.Decoding.{decode-encodes, encodes-decode, length-encode}
-use Rattle.titles.specs.Rows.{joint}
-use Rattle.titles.specs.Marks.{mark-within, plain-small}
+use Rattle.unicode.specs.Utf8.{scalar, scalars, width, encode, encodes, decode}
+use Rattle.unicode.specs.Repertoire.{isMark, plain, allPlain}
+use Rattle.unicode.specs.Nfc.{nfc}
+use Rattle.unicode.specs.Joining.{joined, accepts, composed}
+use Rattle.titles.specs.Compose.{text, acceptedWith, Outcome, outcome, Met, composedText}
+use Rattle.unicode.specs.Bounds.{at-least, at-most, width-2}
+use Rattle.unicode.specs.Decoding.{decode-encodes, encodes-decode, length-encode}
+use Rattle.unicode.specs.Rows.{joint}
+use Rattle.unicode.specs.Marks.{mark-within, plain-small}
 use Rattle.titles.specs.Outcomes.{long, refused, short, taken, judged-accepts, refused-length}
-use Rattle.titles.specs.Composes.{Composes, done, stay, join, letter-plain, joins-mark, accepts-composes}
-use Rattle.titles.specs.NfcTheorem.{accepts-nfc, nfc-composed, equal-accepts, equal-composed, composed-plain, plain-accepts, plain-composed}
+use Rattle.unicode.specs.Composes.{Composes, done, stay, join, letter-plain, joins-mark, accepts-composes}
+use Rattle.unicode.specs.NfcTheorem.{accepts-nfc, nfc-composed, equal-accepts, equal-composed, composed-plain, plain-accepts, plain-composed}
 
 -- the contract leaves one answer and one content of the buffer
 pub one-answer : (title out left left′ : List ℕ) (r r′ : Composed) → Met title out r left → Met title out r′ left′ → (r ≡ r′) × (left ≡ left′)

@@ -1,9 +1,9 @@
 // Titles composed to NFC within the repertoire of document 01, and the test for text values in slips.
-mod pairs;
-mod repertoire;
 mod scan;
-mod utf8;
 
+use characters::pairs;
+use characters::repertoire;
+use characters::utf8;
 ghost use mathlib.Core.Path.{_≡_};
 ghost use Rattle.titles.specs.Compose.{Met, composedText};
 
@@ -47,7 +47,7 @@ pub fn compose(title: &[u8], out: &mut [u8]) -> Composed
     if Title::MAX_BYTES < title.len() {
         return scan::refused(Refusal::TITLE_LONG, 0);
     }
-    let table = pairs::PAIRS;
+    let table = pairs::table();
     let mut text = [0u8; Title::MAX_BYTES];
     let answer = scan::scan(title, &mut text, &table);
     if answer.number != Refusal::NONE {
@@ -57,7 +57,7 @@ pub fn compose(title: &[u8], out: &mut [u8]) -> Composed
     if out.len() < n {
         return scan::refused(Refusal::OUTPUT_SHORT, 0);
     }
-    scan::copy(&text, n, out);
+    bytes::copy(&text[..n], out);
     answer
 }
 

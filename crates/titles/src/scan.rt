@@ -1,16 +1,16 @@
 // One pass over a title: each piece is tested and composed.
 use crate::Composed;
 use crate::Refusal;
-use crate::pairs;
-use crate::repertoire;
-use crate::utf8;
+use characters::pairs;
+use characters::repertoire;
+use characters::utf8;
 ghost use mathlib.Core.Path.{_≡_};
 ghost use Prim.Native.Nat.{_≤_};
-ghost use mathlib.Core.List.{_++_};
-ghost use lib.ListN.{length, take, drop};
-ghost use Rattle.titles.specs.Utf8.{front};
-ghost use Rattle.titles.specs.Pairs.{flat, pairs};
-ghost use Rattle.titles.specs.Compose.{joined, fault, refusal};
+ghost use lib.ListN.{length, drop};
+ghost use Rattle.unicode.specs.Utf8.{front};
+ghost use Rattle.unicode.specs.Pairs.{flat, pairs};
+ghost use Rattle.unicode.specs.Joining.{joined};
+ghost use Rattle.titles.specs.Compose.{fault, refusal};
 ghost use Rattle.titles.specs.Scan.{Scanned};
 
 pub fn refused(number: u32, place: usize) -> Composed
@@ -77,17 +77,5 @@ pub fn scan(title: &[u8], room: &mut [u8], table: &[u16]) -> Composed
         number: Refusal::NONE,
         place: 0,
         length: n,
-    }
-}
-
-// Copies the first `n` bytes of `text` to the front of `out`.
-pub fn copy(text: &[u8], n: usize, out: &mut [u8])
-    requires { ⌜ (n ≤ length (now text)) × (n ≤ length (now out)) ⌝ }
-    ensures { λ _. ⌜ now (out .exit) ≡ take n (now (text .entry)) ++ drop n (now (out .entry)) ⌝ }
-{
-    let mut i = 0;
-    while i < n {
-        out[i] = text[i];
-        i += 1;
     }
 }

@@ -5,11 +5,11 @@ use native.Mathlib.Omega.{arith}
 use borrow.Author.Needs.{needs}
 use borrow.Author.Tests.{not-true, not-false}
 use lib.ListN.{length, drop}
-use Rattle.titles.specs.Utf8.{decode}
-use Rattle.titles.specs.Repertoire.{allPlain}
+use Rattle.unicode.specs.Utf8.{decode}
+use Rattle.unicode.specs.Repertoire.{allPlain}
 use Rattle.titles.specs.Compose.{composedText}
-use Rattle.titles.specs.Marks.{plain-small}
-use Rattle.titles.specs.Decoding.{width-some}
+use Rattle.unicode.specs.Marks.{plain-small}
+use Rattle.unicode.specs.Decoding.{width-some}
 use Rattle.titles.specs.Pieces.{plain-at, not-plain-at, all-plain-end, next-fits}
 use Rattle.titles.proofs.composed_text.Statement.{statement}
 use Rattle.titles.proofs.composed_text.Tie as tie

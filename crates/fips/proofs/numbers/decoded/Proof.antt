@@ -14,11 +14,21 @@ abbrev μ-loop : tie.MeasureT-loop
 μ-loop digits n out₀ i₀ out i = n - i
 
 loop-again : tie.Need-loop-again Inv-loop μ-loop
-loop-again c = simp length-set (omega arith)
+loop-again c = simp length-set (omega (arith, c .before .before .loop-test .taken, c .before .before .before .loop .inv))
 
 pub decoded-spec : {M : Type 1} → statement M
 decoded-spec =
     tie.close
-    (tie.spec Inv-loop μ-loop (λ c. search needs) (λ c. search needs) (λ c κs. search needs) (λ c. search needs)
-    (λ c. search needs) (λ c. search needs) (λ c. search needs) (λ c. search needs) (λ c. search needs)
-    loop-again (λ c. search needs) (λ c. search needs))
+    (tie.spec Inv-loop μ-loop
+    (λ c. omega (arith))
+    (λ c. omega (arith, c .loop-test .taken, c .before .before .before .before .pre, c .before .before .before .before .good .0))
+    (λ c κs. omega (arith, c .loop-test .taken, c .before .before .before .before .pre))
+    (λ c. search needs)
+    (λ c. tt)
+    (λ c. omega (arith, c .if1 .left))
+    (λ c. omega (arith, c .before .before .loop-test .taken, c .before .before .before .loop .inv, c .before .before .before .before .before .before .pre))
+    (λ c. omega (arith, c .before .before .loop-test .taken, c .before .before .before .before .before .before .fits .n))
+    (λ c. omega (arith, c .before .before .loop-test .taken))
+    loop-again
+    (λ c. search needs)
+    (λ c. tt))

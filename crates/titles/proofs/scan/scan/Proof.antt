@@ -6,10 +6,10 @@ use native.Mathlib.Omega.{arith}
 use borrow.Author.Needs.{needs}
 use borrow.Author.Tests.{not-true, not-false}
 use lib.ListN.{length}
-use Rattle.titles.specs.Utf8.{width}
-use Rattle.titles.specs.Repertoire.{plain}
-use Rattle.titles.specs.Marks.{plain-small}
-use Rattle.titles.specs.Decoding.{width-some}
+use Rattle.unicode.specs.Utf8.{width}
+use Rattle.unicode.specs.Repertoire.{plain}
+use Rattle.unicode.specs.Marks.{plain-small}
+use Rattle.unicode.specs.Decoding.{width-some}
 use Rattle.titles.specs.Outcomes.{fault-some}
 use Rattle.titles.specs.Pieces.{next-fits}
 use Rattle.titles.proofs.Reached.{Reached, reached-start, reached-bad, reached-one, reached-two, two-fits, reached-end, reached-all, whole-small}

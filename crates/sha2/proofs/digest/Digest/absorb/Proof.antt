@@ -5,8 +5,8 @@ use native.Mathlib.Omega.{arith}
 use denote.Ref.{now}
 use lib.ListN.{length, take, length-take}
 use lib.Seq.{length-take-le, paste}
-use Rattle.sha2.specs.Compression.{chain}
-use Rattle.sha2.specs.Sha256.{sha256}
+use Rattle.compression.specs.Compression.{chain}
+use Rattle.compression.specs.Sha256.{sha256}
 use Rattle.lists.specs.Lists.{tail-part}
 use Rattle.sha2.proofs.Holding.{held-short, held-long}
 use borrow.Author.Needs.{needs}

@@ -1,11 +1,12 @@
 use mathlib.Core.Path.{refl}
-use Rattle.sha2.specs.Compression.{chain}
+use Rattle.compression.specs.Compression.{chain}
+use Rattle.compression.specs.Sha256.{start}
 use borrow.Author.Needs.{needs}
 use Rattle.sha2.proofs.digest.Digest.new.Statement.{statement}
 use Rattle.sha2.proofs.digest.Digest.new.Tie as tie
 
 returns : tie.Need-returns
-unfolding chain
+unfolding chain start
 returns c =
     record {
       whole = 0;
@@ -14,11 +15,9 @@ returns c =
       cut = refl;
       room = refl;
       long = refl;
-      so-far = c .initial .ensures;
+      so-far = refl;
       left = refl;
     }
 
 pub new-spec : {M : Type 1} → statement M
-new-spec =
-    tie.close
-    (tie.spec (λ c κs. search needs) returns)
+new-spec = tie.close (tie.spec returns)

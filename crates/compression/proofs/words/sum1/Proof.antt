@@ -1,0 +1,10 @@
+use Rattle.compression.proofs.Block.{three-is}
+use borrow.Author.Needs.{needs}
+use Rattle.compression.proofs.words.sum1.Statement.{statement}
+use Rattle.compression.proofs.words.sum1.Tie as tie
+
+returns : tie.Need-returns
+returns c = three-is 6 11 25 (c .before .before .before .args .x) (c .before .before .rotr .ensures) (c .before .rotr2 .ensures) (c .rotr3 .ensures)
+
+pub sum1-spec : {M : Type 1} → statement M
+sum1-spec = tie.close (tie.spec (λ c κs. search needs) (λ c κs. search needs) (λ c κs. search needs) returns)
