@@ -1,5 +1,6 @@
 // The stack of waiting nodes: in one area their pieces end to end, in three columns their types, heights and label lengths.
 use crate::faults;
+use tables::areas::HEAD;
 use tables::form;
 use tables::limits::Slip;
 ghost use mathlib.Core.Path.{_≡_};
@@ -18,9 +19,6 @@ pub struct Stack {
     pub top: usize,
     pub blocks: usize,
 }
-
-// A piece begins with its type and its length, two bytes each.
-pub const HEAD: usize = 4;
 
 // "A prelabel of n bytes takes floor((n + 72) / 64) blocks."
 fn blocks_of(n: usize) -> usize

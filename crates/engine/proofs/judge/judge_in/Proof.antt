@@ -5,10 +5,10 @@ use borrow.Author.Needs.{needs}
 use denote.Ref.{now}
 use lib.ListN.{length}
 use lib.Seq.{length-take-le}
-use Rattle.engine.proofs.Going.{Turn, going-start, given-kept}
+use Rattle.engine.proofs.Going.{Turn, going-start, lent-kept}
 use Rattle.engine.proofs.Turns.{waiting-alike, value-fits, stopped, ready, going-next, done, stands}
-use Rattle.engine.proofs.judge.judge.Statement.{statement}
-use Rattle.engine.proofs.judge.judge.Tie as tie
+use Rattle.engine.proofs.judge.judge_in.Statement.{statement}
+use Rattle.engine.proofs.judge.judge_in.Tie as tie
 
 abbrev Inv-loop : tie.InvT-loop
 Inv-loop types counts lengths values kinds₀ heights₀ sizes₀ work₀ labels₀ s₀ at₀ i₀ kinds heights sizes work labels s at i =
@@ -29,7 +29,7 @@ loop-holds c =
       sizes-same = refl;
       work-same = refl;
       labels-same = refl;
-      given = start .pre;
+      lent = start .pre;
       going =
           going-start (now (a .types)) (now (a .counts)) (now (a .lengths)) (now (a .values)) (now (a .kinds)) (now (a .heights)) (now (a .sizes)) (now (a .work))
           (now (a .labels));
@@ -38,14 +38,14 @@ loop-holds c =
 add-end : tie.Need-add-end Inv-loop μ-loop
 add-end c =
     let t = c .before .before .before .before .loop .inv in
-    omega (arith, t .going .small, t .given .few, c .cell3 .ensures .1)
+    omega (arith, t .going .small, t .lent .given .few, c .cell3 .ensures .1)
 
 -- row i ends within the values
 row-end : (c : tie.After-cell3 Inv-loop μ-loop) → c .before .before .before .before .loop .at + c .cell3 .result ≤ length (now (c .before .before .before .before .before .before .before .before .before .before .before .before .before .before .args .values))
 row-end c =
     let a = c .before .before .before .before .before .before .before .before .before .before .before .before .before .before .args in
     let l = c .before .before .before .before .loop in
-    value-fits (now (a .types)) (now (a .counts)) (now (a .lengths)) (now (a .values)) (l .i) (l .at) (l .inv .given) (l .inv .going)
+    value-fits (now (a .types)) (now (a .counts)) (now (a .lengths)) (now (a .values)) (l .i) (l .at) (l .inv .lent) (l .inv .going)
     (c .before .before .before .loop-test .taken) (c .before .before .cell .ensures .0) (c .before .cell2 .ensures .0) (c .cell3 .ensures .0)
 
 part-fault-end : tie.Need-part-fault-end Inv-loop μ-loop
@@ -55,7 +55,7 @@ part-fault-end c = omega (arith, row-end c)
 deep : (c : tie.At-loop Inv-loop μ-loop) → (c .loop .s .depth ≤ length (c .loop .kinds)) × (c .loop .s .depth ≤ length (c .loop .heights)) × (c .loop .s .depth ≤ length (c .loop .sizes))
 deep c =
     let t = c .loop .inv in
-    omega (arith, t .some, t .given .kinds-room, t .given .heights-room, t .given .sizes-room, t .going .few)
+    omega (arith, t .some, t .lent .kinds-room, t .lent .heights-room, t .lent .sizes-room, t .going .few)
 
 slice-reshare-prefix-fault : tie.Need-slice-reshare-prefix-fault Inv-loop μ-loop
 slice-reshare-prefix-fault c = omega (arith, deep (c .before .before .before .before .before) .0)
@@ -85,14 +85,14 @@ fault-requires : tie.Need-fault-requires Inv-loop μ-loop
 fault-requires c κs =
     let a = c .before .before .before .before .before .before .before .before .before .before .before .before .before .before .before .before .before .before .args in
     let l = c .before .before .before .before .before .before .before .before .loop in
-    waiting-alike (now (a .types)) (now (a .counts)) (now (a .lengths)) (now (a .values)) (l .i) (l .at) (l .inv .given) (l .inv .going) (l .inv .some)
+    waiting-alike (now (a .types)) (now (a .counts)) (now (a .lengths)) (now (a .values)) (l .i) (l .at) (l .inv .lent) (l .inv .going) (l .inv .some)
 
 returns : tie.Need-returns Inv-loop μ-loop
 returns c =
     let a = c .before .before .before .before .before .before .before .before .before .before .before .before .before .before .before .before .before .before .before .before .before .args in
     let l = c .before .before .before .before .before .before .before .before .before .before .before .loop in
     let f = c .before .before .fault in
-    stopped (now (a .types)) (now (a .counts)) (now (a .lengths)) (now (a .values)) (l .i) (l .at) (l .inv .given) (l .inv .going)
+    stopped (now (a .types)) (now (a .counts)) (now (a .lengths)) (now (a .values)) (l .i) (l .at) (l .inv .lent) (l .inv .going)
     (c .before .before .before .before .before .before .before .before .before .before .loop-test .taken) (c .before .before .before .before .before .before .before .before .before .cell .ensures .0) (c .before .before .before .before .before .before .before .before .cell2 .ensures .0) (c .before .before .before .before .before .before .before .cell3 .ensures .0)
     (f .result) (f .ensures (l .inv .going .st) (l .inv .going .laid .columns)) (c .before .if1 .taken) (c .refused .ensures)
 
@@ -103,12 +103,12 @@ grown-requires : tie.Need-grown-requires Inv-loop μ-loop
 grown-requires c κs =
     let a = c .before .before .before .before .before .before .before .before .before .before .before .before .before .before .before .before .before .before .before .before .before .before .before .before .before .before .args in
     let l = c .before .before .before .before .before .before .before .before .before .before .before .before .before .before .before .before .loop in
-    ready (now (a .types)) (now (a .counts)) (now (a .lengths)) (now (a .values)) (l .i) (l .at) (l .inv .given) (l .inv .going)
+    ready (now (a .types)) (now (a .counts)) (now (a .lengths)) (now (a .values)) (l .i) (l .at) (l .inv .lent) (l .inv .going)
     (c .before .before .before .before .before .before .before .before .before .before .before .before .before .before .before .loop-test .taken) (c .before .before .before .before .before .before .before .before .before .before .before .before .before .before .cell .ensures .0) (c .before .before .before .before .before .before .before .before .before .before .before .before .before .cell2 .ensures .0) (c .before .before .before .before .before .before .before .before .before .before .before .before .cell3 .ensures .0)
     (sym (c .before .before .before .before .before .before .if1 .left) ∙ c .before .before .before .before .before .before .before .fault .ensures (l .inv .going .st) (l .inv .going .laid .columns))
 
 add-i : tie.Need-add-i Inv-loop μ-loop
-add-i c = omega (arith, c .before .before .before .before .before .before .before .before .before .before .before .before .before .before .before .before .before .before .before .before .before .before .before .before .before .before .loop-test .taken, c .before .before .before .before .before .before .before .before .before .before .before .before .before .before .before .before .before .before .before .before .before .before .before .before .before .before .before .loop .inv .given .few)
+add-i c = omega (arith, c .before .before .before .before .before .before .before .before .before .before .before .before .before .before .before .before .before .before .before .before .before .before .before .before .before .before .loop-test .taken, c .before .before .before .before .before .before .before .before .before .before .before .before .before .before .before .before .before .before .before .before .before .before .before .before .before .before .before .loop .inv .lent .given .few)
 
 loop-less : tie.Need-loop-less Inv-loop μ-loop
 loop-less c = omega (arith, c .before .before .before .before .before .before .before .before .before .before .before .before .before .before .before .before .before .before .before .before .before .before .before .before .before .before .loop-test .taken)
@@ -126,11 +126,11 @@ loop-again c =
       sizes-same = g .kept .1 .1 .1 .1 .1 .1 .1 .0 ∙ t .sizes-same;
       work-same = g .kept .1 .1 .1 .1 .1 .1 .1 .1 .0 ∙ t .work-same;
       labels-same = g .kept .1 .1 .1 .1 .1 .1 .1 .1 .1 .0 ∙ t .labels-same;
-      given =
-          given-kept (now (a .types)) (now (a .counts)) (now (a .lengths)) (now (a .values)) _ _ _ _ _ (t .given) (g .kept .1 .1 .1 .1 .1 .0)
+      lent =
+          lent-kept (now (a .types)) (now (a .counts)) (now (a .lengths)) (now (a .values)) _ _ _ _ _ (t .lent) (g .kept .1 .1 .1 .1 .1 .0)
           (g .kept .1 .1 .1 .1 .1 .1 .0) (g .kept .1 .1 .1 .1 .1 .1 .1 .0) (g .kept .1 .1 .1 .1 .1 .1 .1 .1 .0) (g .kept .1 .1 .1 .1 .1 .1 .1 .1 .1 .0);
       going =
-          going-next (now (a .types)) (now (a .counts)) (now (a .lengths)) (now (a .values)) (l .i) (l .at) (t .given) (t .going)
+          going-next (now (a .types)) (now (a .counts)) (now (a .lengths)) (now (a .values)) (l .i) (l .at) (t .lent) (t .going)
           (c .before .before .before .before .before .before .before .before .before .before .before .before .before .before .before .before .before .before .before .before .before .before .before .before .before .before .loop-test .taken) (c .before .before .before .before .before .before .before .before .before .before .before .before .before .before .before .before .before .before .before .before .before .before .before .before .before .cell .ensures .0) (c .before .before .before .before .before .before .before .before .before .before .before .before .before .before .before .before .before .before .before .before .before .before .before .before .cell2 .ensures .0) (c .before .before .before .before .before .before .before .before .before .before .before .before .before .before .before .before .before .before .before .before .before .before .before .cell3 .ensures .0)
           (sym (c .before .before .before .before .before .before .before .before .before .before .before .before .before .before .before .before .before .if1 .left) ∙ c .before .before .before .before .before .before .before .before .before .before .before .before .before .before .before .before .before .before .fault .ensures (t .going .st) (t .going .laid .columns))
           (g .ensures (t .going .st) (t .going .laid));
@@ -140,7 +140,7 @@ settled-requires : tie.Need-settled-requires Inv-loop μ-loop
 settled-requires c κs =
     let a = c .before .before .before .before .before .before .before .before .before .before .before .before .before .args in
     let l = c .before .before .before .loop in
-    stands (now (a .types)) (now (a .counts)) (now (a .lengths)) (now (a .values)) (l .i) (l .at) (l .inv .given) (l .inv .going)
+    stands (now (a .types)) (now (a .counts)) (now (a .lengths)) (now (a .values)) (l .i) (l .at) (l .inv .lent) (l .inv .going)
     (c .before .before .loop-test .left) (l .inv .some)
 
 returns-2 : tie.Need-returns-2 Inv-loop μ-loop
@@ -148,11 +148,11 @@ returns-2 c =
     let a = c .before .before .before .before .before .before .before .before .before .before .before .before .before .before .args in
     let l = c .before .before .before .before .loop in
     let w = l .inv .going in
-    done (now (a .types)) (now (a .counts)) (now (a .lengths)) (now (a .values)) (l .i) (l .at) (l .inv .given) w (c .before .before .before .loop-test .left)
+    done (now (a .types)) (now (a .counts)) (now (a .lengths)) (now (a .values)) (l .i) (l .at) (l .inv .lent) w (c .before .before .before .loop-test .left)
     (c .settled .ensures (w .st) (w .laid .deep) (w .laid .columns .kinds-are) (w .laid .work-is))
 
-pub judge-spec : {M : Type 1} → statement M
-judge-spec =
+pub judge-in-spec : {M : Type 1} → statement M
+judge-in-spec =
     tie.close
     (tie.spec Inv-loop μ-loop loop-holds (λ c κs. search needs) (λ c κs. search needs) (λ c κs. search needs) add-end (λ c. search needs) (λ c. search needs)
     part-fault-end slice-reshare-prefix-fault slice-aggregate-fault slice-reshare-prefix-fault-2 slice-aggregate-fault-2 slice-reshare-prefix-fault-3
