@@ -2,6 +2,7 @@
 use Prim.Native.Nat.{ℕ, _≤_}
 use mathlib.Core.List.{List}
 use mathlib.Core.Path.{_≡_, sym, ap, _∙_, subst, subst₂}
+use native.Mathlib.Omega.{arith}
 use lib.ListN.{length, take, drop}
 use lib.Seq.{length-take-le}
 use Rattle.bits.specs.Bits.{bitsOf}
@@ -11,17 +12,47 @@ use Rattle.codec.specs.Reading.{Reading, readAll}
 use Rattle.codec.specs.Reader.{headBits, FillGives}
 use Rattle.codec.specs.declared.fill.Filled.{Filled}
 use Rattle.engine.specs.Engine.{told, Labelled}
-use Rattle.engine.specs.Judging.{Judges}
+use Rattle.engine.specs.Judging.{Given, Judges}
 use Rattle.engine.specs.declared.judge.Judged.{Judged}
 use Rattle.sha2.specs.Sha256 as Sha256
 use Rattle.titles.specs.Compose.{composedText}
 use Rattle.slips.specs.declared.answer.Answer.{Answer}
 use Rattle.slips.specs.Check.{countOf, readingOf, bodyOf}
 use Rattle.slips.specs.declared.open.Opened.{Opened}
-use Rattle.slips.specs.Opening.{settledBy, Opens}
+use Rattle.slips.specs.Opening.{Lent, settledBy, Opens}
 use Rattle.slips.specs.Unpack.{tableOf, handedOf, Leaves}
 use Rattle.slips.specs.ColumnsLaws.{table-back}
 use Rattle.slips.specs.Verdicts.{settled-told}
+
+-- What was read lies within the columns and the area, which are as long as they came, and is what the engine asks.
+module _ {s : List ℕ} {n : ℕ} {types₀ counts₀ lengths₀ values₀ labels : List ℕ} (p : Lent s n types₀ counts₀ lengths₀ values₀ labels)
+    {x : Reading} {r : Filled} {types counts lengths values : List ℕ} (f : FillGives s n x r types counts lengths values)
+    (kt : length types ≡ length types₀) (kc : length counts ≡ length counts₀) (kl : length lengths ≡ length lengths₀)
+  where
+    pub types-in : r .rows ≤ length types
+    types-in = omega (arith, f .few, p .types-room)
+
+    pub counts-in : r .rows ≤ length counts
+    counts-in = omega (arith, f .few, p .counts-room)
+
+    pub lengths-in : r .rows ≤ length lengths
+    lengths-in = omega (arith, f .few, p .lengths-room)
+
+    pub read-given : Given (take (r .rows) types) (take (r .rows) counts) (take (r .rows) lengths) (take (r .used) values) labels
+    read-given =
+        let ts = length-take-le (r .rows) types types-in in
+        let cs = length-take-le (r .rows) counts counts-in in
+        let ls = length-take-le (r .rows) lengths lengths-in in
+        let vs = length-take-le (r .used) values (f .room) in
+        record {
+          counts-long = cs ∙ sym ts;
+          lengths-long = ls ∙ sym ts;
+          few = omega (arith, f .few, p .few);
+          formed = f .form ∙ sym ts;
+          area = omega (arith, f .used);
+          short = omega (arith, f .used, f .packed, f .within, p .long);
+          labels-room = omega (arith, f .few, p .labels-room);
+        }
 
 module _ (s : List ℕ) (n : ℕ) (counted : n ≡ countOf s) {r : Filled} {types counts lengths values : List ℕ}
     (f : FillGives s n (readAll n (drop headBits (bitsOf s))) r types counts lengths values)

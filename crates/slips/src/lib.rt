@@ -1,6 +1,5 @@
 // Slips of the deep store: check, pack and unpack.
 pub mod answer;
-pub mod areas;
 pub mod calls;
 pub mod check;
 pub mod handing;

@@ -1,11 +1,11 @@
 // A table packed into a slip.
 use crate::answer;
 use crate::answer::Answer;
-use crate::areas::Full;
 use codec::measure;
 use codec::write;
 use engine::judge;
 use engine::judge::Judged;
+use tables::areas::Full;
 use tables::form;
 use tables::limits::Slip;
 use tables::refusals::Refusal;
@@ -66,22 +66,8 @@ fn judged(types: &[u16], counts: &[u16], lengths: &[u16], values: &[u8]) -> Judg
     requires { ⌜ Formed (table (now types) (now counts) (now lengths) (now values)) × (sum (now lengths) ≤ maxBytes) ⌝ }
     ensures { λ r. ⌜ r ≡ told (verdict Sha256.label composedText (rowsOf (table (now (types .entry)) (now (counts .entry)) (now (lengths .entry)) (now (values .entry))))) ⌝ }
 {
-    let mut kinds = [0u16; Slip::MAX_NODES];
-    let mut heights = [0u16; Slip::MAX_NODES];
-    let mut sizes = [0u16; Slip::MAX_NODES];
-    let mut work = [0u8; Full::WORK];
     let mut labels = [0u8; Full::LABELS];
-    judge::judge(
-        types,
-        counts,
-        lengths,
-        values,
-        &mut kinds,
-        &mut heights,
-        &mut sizes,
-        &mut work,
-        &mut labels,
-    )
+    judge::judge(types, counts, lengths, values, &mut labels)
 }
 
 // The answer to a table for an output of so many bytes: every refusal is ruled out before a byte is written.

@@ -1,10 +1,10 @@
 // A slip unpacked into the four buffers of a table.
 use crate::answer;
 use crate::answer::Answer;
-use crate::areas::Full;
 use crate::handing;
 use crate::header;
 use crate::open;
+use tables::areas::Full;
 use tables::limits::Slip;
 use tables::refusals::Refusal;
 ghost use Rattle.sha2.specs.Sha256 as Sha256;
@@ -31,10 +31,6 @@ fn unpack_taken(
     let mut counts = [0u16; Slip::MAX_NODES];
     let mut lengths = [0u16; Slip::MAX_NODES];
     let mut values = [0u8; Slip::MAX_BYTES];
-    let mut kinds = [0u16; Slip::MAX_NODES];
-    let mut heights = [0u16; Slip::MAX_NODES];
-    let mut sizes = [0u16; Slip::MAX_NODES];
-    let mut work = [0u8; Full::WORK];
     let mut labels = [0u8; Full::LABELS];
     let o = open::open_in(
         s,
@@ -43,10 +39,6 @@ fn unpack_taken(
         &mut counts,
         &mut lengths,
         &mut values,
-        &mut kinds,
-        &mut heights,
-        &mut sizes,
-        &mut work,
         &mut labels,
     );
     let rows = o.rows;
