@@ -13,8 +13,8 @@ use Rattle.sha2.specs.Sha256 as Sha256
 use Rattle.titles.specs.Compose.{composedText}
 use Rattle.engine.specs.Engine.{tops}
 use Rattle.engine.specs.Judging.{Lent}
-use Rattle.engine.specs.Waiting.{Laid}
-use Rattle.engine.specs.declared.stack.Stack.{Stack}
+use Rattle.stack.specs.Areas.{Laid}
+use Rattle.stack.specs.declared.Stack.{Stack}
 use Rattle.engine.proofs.Growing.{whole}
 use Rattle.engine.proofs.Noting.{RowNoted}
 

@@ -14,14 +14,14 @@ use Rattle.tables.specs.Tables.{entryOf, entries, rowFits, sum}
 use Rattle.sha2.specs.Sha256 as Sha256
 use Rattle.titles.specs.Compose.{composedText}
 use Rattle.engine.specs.Engine.{told, lastText, topOf, tops, Labelled}
-use Rattle.engine.specs.Judging.{Lent, Judges}
-use Rattle.engine.specs.Waiting.{after, cost, faultOf, Alike, Laid, Ready, Grows, Stands}
+use Rattle.engine.specs.Judging.{Lent, Judges, Stands}
+use Rattle.faults.specs.Waiting.{faultOf, Alike}
+use Rattle.stack.specs.Areas.{after, cost, Laid, Ready, Grows}
 use Rattle.engine.specs.declared.judge.Judged.{Judged}
-use Rattle.engine.specs.declared.stack.Stack.{Stack}
-use Rattle.engine.proofs.Columns.{sum-next}
-use Rattle.engine.proofs.Steps.{goes-on, stops}
-use Rattle.engine.proofs.Growing.{whole, whole-long, bytesOf, after-whole, after-long, after-deep, after-cost, entry-sound}
-use Rattle.engine.proofs.Entries.{row-formed, row-small, entries-next, entries-end, row-fits}
+use Rattle.stack.specs.declared.Stack.{Stack}
+use Rattle.faults.specs.Steps.{stops}
+use Rattle.engine.proofs.Growing.{whole, whole-long, bytesOf, after-whole, after-long, after-deep, after-cost, entry-sound, goes-on}
+use Rattle.engine.proofs.Entries.{row-formed, row-small, entries-next, entries-end, row-fits, sum-next}
 use Rattle.engine.proofs.Noting.{noted-next}
 use Rattle.engine.proofs.Going.{rest, Going}
 use Rattle.engine.proofs.Telling.{first-cell}

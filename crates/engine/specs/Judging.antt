@@ -2,12 +2,13 @@
 use Prim.Native.Nat.{ℕ, _+_, _*_, _≤_}
 use mathlib.Core.Path.{_≡_}
 use mathlib.Core.List.{List}
-use lib.ListN.{length}
+use lib.ListN.{length, getD}
 use Rattle.trees.specs.Rules.{maxNodes, maxBytes, labelBytes}
 use Rattle.trees.specs.Rows.{verdict}
 use Rattle.tables.specs.Tables.{entries, firstBad, sum}
 use Rattle.sha2.specs.Sha256 as Sha256
 use Rattle.titles.specs.Compose.{composedText}
+use Rattle.stack.specs.declared.Stack.{Stack}
 use Rattle.engine.specs.Engine.{told, Labelled}
 use Rattle.engine.specs.declared.judge.Judged.{Judged}
 
@@ -34,6 +35,12 @@ pub record Lent (types counts lengths values kinds heights sizes work labels : L
   pub heights-room : length types ≤ length heights
   pub sizes-room : length types ≤ length sizes
   pub work-room : 4 * length types + sum lengths ≤ length work
+
+-- a root that waits alone has a whole label
+pub record Stands (s : Stack) (kinds work : List ℕ) : Type 0 where
+  pub kinds-room : s .depth ≤ length kinds
+  pub work-room : s .top ≤ length work
+  pub root : s .depth ≡ 1 → getD kinds 0 0 ≡ 0 → s .top ≡ 4 + labelBytes
 
 -- The verdict on the table's entries, and at each internal node's row its label.
 pub record Judges (types counts lengths values : List ℕ) (r : Judged) (labels : List ℕ) : Type 0 where

@@ -1,7 +1,5 @@
 // What is told of a table's rows.
-use crate::faults;
-use crate::stack;
-use crate::stack::Stack;
+use stack::Stack;
 use tables::areas::Full;
 use tables::areas::HEAD;
 use tables::areas::Small;
@@ -17,9 +15,10 @@ ghost use lib.ListN.{length, take, getD};
 ghost use Rattle.trees.specs.Rules.{maxNodes, maxBytes};
 ghost use Rattle.trees.specs.Rows.{Tag, left, faulty};
 ghost use Rattle.tables.specs.Areas.{smallNodes, smallBytes};
+ghost use Rattle.faults.specs.Waiting.{kindOf};
+ghost use Rattle.stack.specs.Areas.{pieces};
 ghost use Rattle.engine.specs.Engine.{told};
-ghost use Rattle.engine.specs.Waiting.{Stands, kindOf, pieces};
-ghost use Rattle.engine.specs.Judging.{Given, Within, Lent, Judges};
+ghost use Rattle.engine.specs.Judging.{Given, Within, Lent, Stands, Judges};
 
 pub struct Judged {
     pub number: usize,

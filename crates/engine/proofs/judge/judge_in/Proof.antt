@@ -5,6 +5,7 @@ use borrow.Author.Needs.{needs}
 use denote.Ref.{now}
 use lib.ListN.{length}
 use lib.Seq.{length-take-le}
+use Rattle.sha2.specs.Sha256 as Sha256
 use Rattle.engine.proofs.Going.{Turn, going-start, lent-kept}
 use Rattle.engine.proofs.Turns.{waiting-alike, value-fits, stopped, ready, going-next, done, stands}
 use Rattle.engine.proofs.judge.judge_in.Statement.{statement}
@@ -94,7 +95,7 @@ returns c =
     let f = c .before .before .fault in
     stopped (now (a .types)) (now (a .counts)) (now (a .lengths)) (now (a .values)) (l .i) (l .at) (l .inv .lent) (l .inv .going)
     (c .before .before .before .before .before .before .before .before .before .before .loop-test .taken) (c .before .before .before .before .before .before .before .before .before .cell .ensures .0) (c .before .before .before .before .before .before .before .before .cell2 .ensures .0) (c .before .before .before .before .before .before .before .cell3 .ensures .0)
-    (f .result) (f .ensures (l .inv .going .st) (l .inv .going .laid .columns)) (c .before .if1 .taken) (c .refused .ensures)
+    (f .result) (f .ensures Sha256.label (l .inv .going .st) (l .inv .going .laid .columns)) (c .before .if1 .taken) (c .refused .ensures)
 
 part-grown-end : tie.Need-part-grown-end Inv-loop μ-loop
 part-grown-end c = omega (arith, row-end (c .before .before .before .before .before .before))
@@ -105,7 +106,7 @@ grown-requires c κs =
     let l = c .before .before .before .before .before .before .before .before .before .before .before .before .before .before .before .before .loop in
     ready (now (a .types)) (now (a .counts)) (now (a .lengths)) (now (a .values)) (l .i) (l .at) (l .inv .lent) (l .inv .going)
     (c .before .before .before .before .before .before .before .before .before .before .before .before .before .before .before .loop-test .taken) (c .before .before .before .before .before .before .before .before .before .before .before .before .before .before .cell .ensures .0) (c .before .before .before .before .before .before .before .before .before .before .before .before .before .cell2 .ensures .0) (c .before .before .before .before .before .before .before .before .before .before .before .before .cell3 .ensures .0)
-    (sym (c .before .before .before .before .before .before .if1 .left) ∙ c .before .before .before .before .before .before .before .fault .ensures (l .inv .going .st) (l .inv .going .laid .columns))
+    (sym (c .before .before .before .before .before .before .if1 .left) ∙ c .before .before .before .before .before .before .before .fault .ensures Sha256.label (l .inv .going .st) (l .inv .going .laid .columns))
 
 add-i : tie.Need-add-i Inv-loop μ-loop
 add-i c = omega (arith, c .before .before .before .before .before .before .before .before .before .before .before .before .before .before .before .before .before .before .before .before .before .before .before .before .before .before .loop-test .taken, c .before .before .before .before .before .before .before .before .before .before .before .before .before .before .before .before .before .before .before .before .before .before .before .before .before .before .before .loop .inv .lent .given .few)
@@ -132,7 +133,7 @@ loop-again c =
       going =
           going-next (now (a .types)) (now (a .counts)) (now (a .lengths)) (now (a .values)) (l .i) (l .at) (t .lent) (t .going)
           (c .before .before .before .before .before .before .before .before .before .before .before .before .before .before .before .before .before .before .before .before .before .before .before .before .before .before .loop-test .taken) (c .before .before .before .before .before .before .before .before .before .before .before .before .before .before .before .before .before .before .before .before .before .before .before .before .before .cell .ensures .0) (c .before .before .before .before .before .before .before .before .before .before .before .before .before .before .before .before .before .before .before .before .before .before .before .before .cell2 .ensures .0) (c .before .before .before .before .before .before .before .before .before .before .before .before .before .before .before .before .before .before .before .before .before .before .before .cell3 .ensures .0)
-          (sym (c .before .before .before .before .before .before .before .before .before .before .before .before .before .before .before .before .before .if1 .left) ∙ c .before .before .before .before .before .before .before .before .before .before .before .before .before .before .before .before .before .before .fault .ensures (t .going .st) (t .going .laid .columns))
+          (sym (c .before .before .before .before .before .before .before .before .before .before .before .before .before .before .before .before .before .if1 .left) ∙ c .before .before .before .before .before .before .before .before .before .before .before .before .before .before .before .before .before .before .fault .ensures Sha256.label (t .going .st) (t .going .laid .columns))
           (g .ensures (t .going .st) (t .going .laid));
     }
 
