@@ -1,5 +1,5 @@
 -- One entry more, from the areas before it to the areas after it.
-use Prim.Native.Nat.{ℕ, _+_, _-_, _*_, _≤_}
+use Prim.Native.Nat.{ℕ, _+_, _-_, _*_, _^_, _≤_, _<_}
 use mathlib.Core.Path.{_≡_, refl, sym, ap, ap₂, subst, _∙_}
 use mathlib.Core.List.{List, [], _∷_, _++_, map}
 use native.Mathlib.Omega.{arith}
@@ -56,7 +56,7 @@ module _ (s : Stack) (t : ℕ) (v : List ℕ) (i : ℕ) {kinds heights sizes wor
 
 -- An internal node takes the last `count`.
 module _ (s : Stack) (count i : ℕ) {kinds heights sizes work labels : List ℕ} (p : Ready s (node count) i kinds heights sizes work labels) where
-  there : count ≤ s .depth
+  pub there : count ≤ s .depth
   there = omega (arith, p .sound .0, p .laid .deep)
 
   pub counted : Counted s count heights sizes work
@@ -74,6 +74,12 @@ module _ (s : Stack) (count i : ℕ) {kinds heights sizes work labels : List ℕ
   module _ {r : Parent} (o : Over s count r heights sizes work) where
     pub parent-fits : r .long ≤ s .top
     parent-fits = omega (arith, o .long, counted .long)
+
+    pub prelabel-small : r .long < 2 ^ 32
+    prelabel-small = omega (arith, parent-fits, p .small)
+
+    pub blocks-fit : {n : ℕ} → n ≡ blocksOf (r .long) → s .blocks + n < 2 ^ 64
+    blocks-fit e = omega (arith, parent-fits, p .small, p .counted)
 
     -- whatever stack lies in the areas
     module _ {st : List Tag} (l : Laid st (s .depth) (s .top) kinds heights sizes work) where

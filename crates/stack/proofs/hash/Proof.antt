@@ -7,7 +7,7 @@ use denote.Ref.{now}
 use lib.ListN.{length, drop, length-take, length-drop}
 use Rattle.trees.specs.Rules.{labelBytes}
 use Rattle.lists.specs.Lists.{put-is}
-use Rattle.stack.proofs.Hashing.{counted, parent-fits, parent-label, parent-room, node-grows}
+use Rattle.stack.proofs.Hashing.{there, counted, parent-fits, prelabel-small, blocks-fit, parent-label, parent-room, node-grows}
 use Rattle.stack.proofs.hash.Statement.{statement}
 use Rattle.stack.proofs.hash.Tie as tie
 
@@ -16,23 +16,25 @@ parent-of-requires c κs =
     let start = c .before .before .before .before .before .before .before .before in
     counted (start .args .s) (start .args .count) (start .args .i) (start .pre)
 
+sub-depth : tie.Need-sub-depth
+sub-depth c =
+    let start = c .before .before .before .before .before .before .before .before .before .before in
+    there (start .args .s) (start .args .count) (start .args .i) (start .pre)
+
 sub-top : tie.Need-sub-top
 sub-top c =
     let start = c .before .before .before .before .before .before .before .before .before .before .before .before in
-    let fits = parent-fits (start .args .s) (start .args .count) (start .args .i) (start .pre) (c .before .before .before .parent-of .ensures) in
-    omega arith
+    parent-fits (start .args .s) (start .args .count) (start .args .i) (start .pre) (c .before .before .before .parent-of .ensures)
 
 blocks-of-requires : tie.Need-blocks-of-requires
 blocks-of-requires c κs =
     let start = c .before .before .before .before .before .before .before .before .before .before .before .before in
-    let fits = parent-fits (start .args .s) (start .args .count) (start .args .i) (start .pre) (c .before .before .before .parent-of .ensures) in
-    omega (arith, start .pre .small)
+    prelabel-small (start .args .s) (start .args .count) (start .args .i) (start .pre) (c .before .before .before .parent-of .ensures)
 
 add-blocks : tie.Need-add-blocks
 add-blocks c =
     let start = c .before .before .before .before .before .before .before .before .before .before .before .before .before .before in
-    let fits = parent-fits (start .args .s) (start .args .count) (start .args .i) (start .pre) (c .before .before .before .before .before .parent-of .ensures) in
-    omega (arith, start .pre .small, start .pre .counted, c .before .blocks-of .ensures)
+    omega (arith, blocks-fit (start .args .s) (start .args .count) (start .args .i) (start .pre) (c .before .before .before .before .before .parent-of .ensures) (c .before .blocks-of .ensures))
 
 mul-at : tie.Need-mul-at
 mul-at c =
@@ -73,6 +75,6 @@ returns c =
 pub hash-spec : {M : Type 1} → statement M
 hash-spec =
     tie.close
-    (tie.spec parent-of-requires (λ c. search needs) sub-top blocks-of-requires add-blocks mul-at (λ c. search needs) (λ c. search needs)
-    part-copy-start (λ c. search needs) copy-requires (λ c. search needs) push-requires (λ c. search needs) (λ c. search needs)
-    (λ c. search needs) (λ c. search needs) (λ c. search needs) returns)
+    (tie.spec parent-of-requires sub-depth sub-top blocks-of-requires add-blocks mul-at (λ c. search needs) (λ c. search needs)
+    part-copy-start (λ c. search needs) copy-requires (λ c. search needs) push-requires (λ c. c .before .before .before .before .before .before .before .before .push .kept .1 .1 .1 .1 .0)
+    (λ c. c .before .before .before .before .before .before .before .before .push .kept .1 .1 .1 .1 .1 .0) (λ c. c .before .before .before .before .before .before .before .before .push .kept .1 .1 .1 .1 .1 .1 .0) (λ c. c .before .before .before .before .before .before .before .before .push .kept .1 .1 .1 .1 .1 .1 .1 .0) (λ c. search needs) returns)
