@@ -1,6 +1,6 @@
 -- The rows of a table, one by one: the entry that each gives, and what its form tells.
 use Prim.Native.Nat.{ℕ, zero, suc, _+_, _≤_, _<_}
-use mathlib.Core.Path.{_≡_, refl}
+use mathlib.Core.Path.{_≡_, refl, ap}
 use mathlib.Core.Bool.{Bool, true, false, cond, _&&_, _||_}
 use mathlib.Core.List.{List, [], _∷_}
 use native.Mathlib.Omega.{arith}
@@ -11,7 +11,7 @@ use Rattle.trees.specs.Rules.{labelBytes, maxType, maxValue, maxChildren}
 use Rattle.trees.specs.Rows.{formed}
 use lib.ListN.{length, take, drop, getD, drop-of-length-le}
 use lib.Seq.{drop-drop}
-use Rattle.tables.specs.Tables.{entryOf, entries, internalRow, danglingRow, pairRow, rowFits, firstBad}
+use Rattle.tables.specs.Tables.{entryOf, entries, sum, internalRow, danglingRow, pairRow, rowFits, firstBad}
 use Rattle.lists.specs.Lists.{next-cons}
 
 -- the row i, and the rows behind it
@@ -104,3 +104,8 @@ row-small t c l e =
     (λ p. let z : l ≡ 0 = eqb-true l 0 (and-right (eqb t 0) (eqb l 0) (and-left (eqb t 0 && eqb l 0) (leb 1 c) (and-left (eqb t 0 && eqb l 0 && leb 1 c) (leb c maxChildren) p))) in omega arith)
     (λ p. let z : l ≡ labelBytes = eqb-true l labelBytes (and-right (eqb t 0 && eqb c 0) (eqb l labelBytes) p) in omega arith))
     (λ p. leb-true l maxValue (and-right (leb 1 t && leb t maxType && eqb c 0) (leb l maxValue) p))
+
+-- the sum of the rows left
+pub sum-next : (l : List ℕ) (i : ℕ) → i < length l → sum (drop i l) ≡ getD l i 0 + sum (drop (i + 1) l)
+unfolding sum
+sum-next l i h = ap sum (next-cons l i 0 h)

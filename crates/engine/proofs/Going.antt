@@ -12,9 +12,9 @@ use Rattle.tables.specs.Tables.{entries, sum}
 use Rattle.sha2.specs.Sha256 as Sha256
 use Rattle.titles.specs.Compose.{composedText}
 use Rattle.engine.specs.Engine.{tops}
-use Rattle.engine.specs.Judging.{Given}
-use Rattle.engine.specs.Waiting.{Laid}
-use Rattle.engine.specs.declared.stack.Stack.{Stack}
+use Rattle.engine.specs.Judging.{Lent}
+use Rattle.stack.specs.Areas.{Laid}
+use Rattle.stack.specs.declared.Stack.{Stack}
 use Rattle.engine.proofs.Growing.{whole}
 use Rattle.engine.proofs.Noting.{RowNoted}
 
@@ -77,29 +77,24 @@ pub record Turn (types counts lengths values kinds₀ heights₀ sizes₀ work�
   pub sizes-same : length sizes ≡ length sizes₀
   pub work-same : length work ≡ length work₀
   pub labels-same : length labels ≡ length labels₀
-  pub given : Given types counts lengths values kinds heights sizes work labels
+  pub lent : Lent types counts lengths values kinds heights sizes work labels
   pub going : Going types counts lengths values i at s kinds heights sizes work labels
 
 -- the areas keep their room
-pub given-kept :
+pub lent-kept :
     (types counts lengths values : List ℕ) {kinds heights sizes work labels : List ℕ} (kinds′ heights′ sizes′ work′ labels′ : List ℕ)
-    → Given types counts lengths values kinds heights sizes work labels
+    → Lent types counts lengths values kinds heights sizes work labels
     → length kinds′ ≡ length kinds
     → length heights′ ≡ length heights
     → length sizes′ ≡ length sizes
     → length work′ ≡ length work
     → length labels′ ≡ length labels
-    → Given types counts lengths values kinds′ heights′ sizes′ work′ labels′
-given-kept types counts lengths values kinds′ heights′ sizes′ work′ labels′ g ek eh es ew el =
+    → Lent types counts lengths values kinds′ heights′ sizes′ work′ labels′
+lent-kept types counts lengths values kinds′ heights′ sizes′ work′ labels′ g ek eh es ew el =
     record {
-      counts-long = g .counts-long;
-      lengths-long = g .lengths-long;
-      few = g .few;
-      formed = g .formed;
-      area = g .area;
+      given = record { counts-long = g .given .counts-long; lengths-long = g .given .lengths-long; few = g .given .few; formed = g .given .formed; area = g .given .area; short = g .given .short; labels-room = omega arith };
       kinds-room = omega arith;
       heights-room = omega arith;
       sizes-room = omega arith;
       work-room = omega arith;
-      labels-room = omega arith;
     }

@@ -1,23 +1,24 @@
 -- How far the stack grows by an entry of the form that meets no refusal.
 use Prim.Native.Nat.{ℕ, zero, suc, _+_, _-_, _/_, _≤_}
 use mathlib.Core.Path.{_≡_, refl, sym, ap, _∙_}
-use mathlib.Core.Bool.{Bool, true, false, not, _&&_, _||_, false≢true}
+use mathlib.Core.Bool.{Bool, true, false, not, cond, _&&_, _||_, false≢true}
 use mathlib.Core.List.{List, [], _∷_, map}
 use native.Mathlib.Omega.{arith}
 use lib.Dec.{eqb, leb}
 use lib.ListN.{length, length-append, length-take, length-drop}
-use borrow.Author.Tests.{eqb-true, eqb-false, eq-eqb, ne-eqb, leb-true, not-true}
+use borrow.Author.Tests.{eqb-true, eqb-false, eq-eqb, ne-eqb, leb-true, le-ltb, not-true}
 use Rattle.trees.specs.Tests.{and-left, and-right, and-both, or-cases}
 use Rattle.trees.specs.Lists.{all, all-append}
 use Rattle.trees.specs.Nodes.{piece}
-use Rattle.trees.specs.Rules.{labelBytes, saltType, saltBytes, maxValue, maxType, maxChildren, saltFirst, saltLong, saltThere, salted, leafFits}
-use Rattle.trees.specs.Rows.{Entry, node, tip, formed, Tag, headOf, highestOf, kids, below, parent, stepOf}
+use Rattle.trees.specs.Rules.{labelBytes, saltType, saltBytes, maxValue, maxType, maxChildren, maxHeight, notComposed, saltFirst, saltLong, saltThere, salted, leafFits, textFits}
+use Rattle.trees.specs.Rows.{Entry, node, tip, formed, Tag, headOf, highestOf, kids, below, parent, fault, next, stepOf}
 use Rattle.sha2.specs.Sha256 as Sha256
 use Rattle.sha2.specs.Blocks.{label-long}
 use Rattle.engine.specs.Lists.{all-take, all-drop}
-use Rattle.engine.specs.Waiting.{pieces, cost, after, Sound, faultOf}
-use Rattle.engine.proofs.Pieces.{length-split, length-more}
-use Rattle.engine.proofs.Steps.{Kept, kept}
+use Rattle.faults.specs.Waiting.{faultOf}
+use Rattle.stack.specs.Areas.{pieces, cost, after, Sound}
+use Rattle.stack.specs.PieceLaws.{length-split, length-more}
+use Rattle.faults.specs.Steps.{Kept, kept}
 
 -- a node of type 0 has a whole label: it is internal or dangling
 abbrev pub whole : Tag → Bool
@@ -125,3 +126,17 @@ module _ (composed : List ℕ → Bool) (st : List Tag) (w : all whole st ≡ tr
   pub entry-sound : (e : Entry) → formed e ≡ true → faultOf (stepOf Sha256.label composed st e) ≡ 0 → Sound st e
   entry-sound (node k) f z = let n : Kept st k = kept Sha256.label composed st k z in (n .there, n .low)
   entry-sound (tip t v) f z = let n : (t ≤ maxType) × (length v ≤ maxValue) = leaf-small t v f in omega arith
+
+module _ (H : List ℕ → List ℕ) (composed : List ℕ → Bool) (st : List Tag) where
+  -- a step that meets no refusal makes the stack after the entry, at the entry's cost
+  pub goes-on : (e : Entry) → faultOf (stepOf H composed st e) ≡ 0 → stepOf H composed st e ≡ next (after H st e) (cost st e)
+  goes-on (node k) e =
+      let n : Kept st k = kept H composed st k e in
+      let low : highestOf (kids k st) + 1 ≤ maxHeight = omega arith in
+      rw (le-ltb (length st) k (n .there), le-ltb maxHeight (highestOf (kids k st) + 1) low, n .salt)
+  goes-on (tip t v) e = go (textFits composed t v) e
+    where
+      go : (b : Bool) → faultOf (cond b (next (after H st (tip t v)) 0) (fault notComposed)) ≡ 0
+          → cond b (next (after H st (tip t v)) 0) (fault notComposed) ≡ next (after H st (tip t v)) 0
+      go true f = refl
+      go false f = absurd (omega arith)

@@ -1,12 +1,5 @@
--- Laws that the functions' proofs cite: the refusals of an entry,
-pub mod Salt
-pub mod Steps
--- the areas of the stack,
-pub mod Columns
-pub mod Pieces
-pub mod Laid
+-- Laws that the functions' proofs cite: the stack,
 pub mod Growing
-pub mod Hashing
 pub mod Telling
 -- and the rows in turn.
 pub mod Entries

@@ -12,7 +12,7 @@ use Rattle.tables.specs.Tables.{entryOf}
 use Rattle.sha2.specs.Sha256 as Sha256
 use Rattle.sha2.specs.Blocks.{label-long}
 use Rattle.engine.specs.Engine.{lastText}
-use Rattle.engine.specs.Waiting.{pieces, after, noted}
+use Rattle.stack.specs.Areas.{pieces, after, noted}
 use Rattle.lists.specs.Lists.{part, front, same-part}
 
 -- the text on the top

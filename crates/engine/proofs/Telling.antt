@@ -11,7 +11,8 @@ use borrow.Author.Tests.{ne-eqb}
 use Rattle.trees.specs.Rules.{labelBytes}
 use Rattle.trees.specs.Rows.{Tag, left}
 use Rattle.engine.specs.Engine.{told, noLabel, oneTree}
-use Rattle.engine.specs.Waiting.{kindOf, pieces}
+use Rattle.faults.specs.Waiting.{kindOf}
+use Rattle.stack.specs.Areas.{pieces}
 use Rattle.engine.specs.declared.judge.Judged.{Judged}
 use Rattle.lists.specs.Lists.{part}
 

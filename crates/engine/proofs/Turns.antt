@@ -14,14 +14,14 @@ use Rattle.tables.specs.Tables.{entryOf, entries, rowFits, sum}
 use Rattle.sha2.specs.Sha256 as Sha256
 use Rattle.titles.specs.Compose.{composedText}
 use Rattle.engine.specs.Engine.{told, lastText, topOf, tops, Labelled}
-use Rattle.engine.specs.Judging.{Given, Judges}
-use Rattle.engine.specs.Waiting.{after, cost, faultOf, Alike, Laid, Ready, Grows, Stands}
+use Rattle.engine.specs.Judging.{Lent, Judges, Stands}
+use Rattle.faults.specs.Waiting.{faultOf, Alike}
+use Rattle.stack.specs.Areas.{after, cost, Laid, Ready, Grows}
 use Rattle.engine.specs.declared.judge.Judged.{Judged}
-use Rattle.engine.specs.declared.stack.Stack.{Stack}
-use Rattle.engine.proofs.Columns.{sum-next}
-use Rattle.engine.proofs.Steps.{goes-on, stops}
-use Rattle.engine.proofs.Growing.{whole, whole-long, bytesOf, after-whole, after-long, after-deep, after-cost, entry-sound}
-use Rattle.engine.proofs.Entries.{row-formed, row-small, entries-next, entries-end, row-fits}
+use Rattle.stack.specs.declared.Stack.{Stack}
+use Rattle.faults.specs.Steps.{stops}
+use Rattle.engine.proofs.Growing.{whole, whole-long, bytesOf, after-whole, after-long, after-deep, after-cost, entry-sound, goes-on}
+use Rattle.engine.proofs.Entries.{row-formed, row-small, entries-next, entries-end, row-fits, sum-next}
 use Rattle.engine.proofs.Noting.{noted-next}
 use Rattle.engine.proofs.Going.{rest, Going}
 use Rattle.engine.proofs.Telling.{first-cell}
@@ -46,7 +46,7 @@ root-long {d} (g ∷ []) {kinds} l w one z =
 root-long (g ∷ (h ∷ gs)) l w one z = absurd (omega (arith, l .deep))
 
 module _ (types counts lengths values : List ℕ) (i at : ℕ) {s : Stack} {kinds heights sizes work labels : List ℕ}
-    (g : Given types counts lengths values kinds heights sizes work labels)
+    (g : Lent types counts lengths values kinds heights sizes work labels)
     (w : Going types counts lengths values i at s kinds heights sizes work labels)
   where
     -- the columns of those that wait
@@ -81,16 +81,16 @@ module _ (types counts lengths values : List ℕ) (i at : ℕ) {s : Stack} {kind
         entry = entryOf kind count value
 
         row-used : at + long + sum (drop (i + 1) lengths) ≡ sum lengths
-        row-used = omega (arith, sum-next lengths i (omega (arith, g .lengths-long)), w .used)
+        row-used = omega (arith, sum-next lengths i (omega (arith, g .given .lengths-long)), w .used)
 
         pub value-fits : at + long ≤ length values
-        value-fits = omega (arith, row-used, g .area)
+        value-fits = omega (arith, row-used, g .given .area)
 
         value-long : length value ≡ long
         value-long = omega (arith, length-take (at + long - at) (drop at values), length-drop at values, value-fits)
 
         fits : rowFits kind count long ≡ true
-        fits = rw (ek, ec, el) (row-fits 0 types counts lengths i (omega (arith, g .formed)) inside)
+        fits = rw (ek, ec, el) (row-fits 0 types counts lengths i (omega (arith, g .given .formed)) inside)
 
         entry-formed : formed entry ≡ true
         entry-formed = row-formed kind count value (subst (λ (n : ℕ). rowFits kind count n ≡ true) (sym value-long) fits)
@@ -98,7 +98,7 @@ module _ (types counts lengths values : List ℕ) (i at : ℕ) {s : Stack} {kind
         rest-is : rest types counts lengths values i at ≡ entry ∷ rest types counts lengths values (i + 1) (at + long)
         rest-is =
             let n : at + long - at ≡ getD lengths i 0 = omega arith in
-            entries-next types counts lengths values i at inside (omega (arith, g .counts-long)) (omega (arith, g .lengths-long))
+            entries-next types counts lengths values i at inside (omega (arith, g .given .counts-long)) (omega (arith, g .given .lengths-long))
             ∙ rw (n, ek, ec, el)
 
         -- a refusal ends the run
@@ -149,10 +149,10 @@ module _ (types counts lengths values : List ℕ) (i at : ℕ) {s : Stack} {kind
                     row-used,
                     g .work-room,
                   );
-              labels-room = omega (arith, g .labels-room);
-              few = omega (arith, g .few, w .few);
-              small = omega (arith, g .few, w .low, w .small);
-              counted = omega (arith, g .few, w .counted);
+              labels-room = omega (arith, g .given .labels-room);
+              few = omega (arith, g .given .few, w .few);
+              small = omega (arith, g .given .few, w .low, w .small);
+              counted = omega (arith, g .given .few, w .counted);
             }
 
         -- and the run goes on
@@ -184,7 +184,7 @@ module _ (types counts lengths values : List ℕ) (i at : ℕ) {s : Stack} {kind
                   ∙ sym (append-assoc (w .before) (x ∷ []) (tops Sha256.label composedText st′ es));
               passed = length-append (w .before) (x ∷ []) ∙ ap (λ (m : ℕ). m + 1) (w .passed);
               noted =
-                  noted-next (w .st) kind i value counts labels (w .before) (w .passed) (omega (arith, g .labels-room)) (w .noted) count ec
+                  noted-next (w .st) kind i value counts labels (w .before) (w .passed) (omega (arith, g .given .labels-room)) (w .noted) count ec
                   (n .labels-are);
               used = row-used;
               few = omega (arith, after-deep (w .st) entry, n .laid .deep, w .laid .deep, w .few);
@@ -208,7 +208,7 @@ module _ (types counts lengths values : List ℕ) (i at : ℕ) {s : Stack} {kind
                     w .laid .full,
                     w .low,
                     w .small,
-                    g .few,
+                    g .given .few,
                   );
             }
 

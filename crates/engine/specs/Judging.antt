@@ -2,28 +2,45 @@
 use Prim.Native.Nat.{ℕ, _+_, _*_, _≤_}
 use mathlib.Core.Path.{_≡_}
 use mathlib.Core.List.{List}
-use lib.ListN.{length}
-use Rattle.trees.specs.Rules.{maxNodes, labelBytes}
+use lib.ListN.{length, getD}
+use Rattle.trees.specs.Rules.{maxNodes, maxBytes, labelBytes}
 use Rattle.trees.specs.Rows.{verdict}
 use Rattle.tables.specs.Tables.{entries, firstBad, sum}
 use Rattle.sha2.specs.Sha256 as Sha256
 use Rattle.titles.specs.Compose.{composedText}
+use Rattle.stack.specs.declared.Stack.{Stack}
 use Rattle.engine.specs.Engine.{told, Labelled}
 use Rattle.engine.specs.declared.judge.Judged.{Judged}
 
--- A table of the form, whose values area may be longer than the sum of lengths, and room for its stack and labels.
--- Four bytes a row and the values are room enough: children that keep the salt rule have at least a label's bytes.
-pub record Given (types counts lengths values kinds heights sizes work labels : List ℕ) : Type 0 where
+-- A table of the form, whose values area may be longer than the sum of lengths, and room for a label a row.
+pub record Given (types counts lengths values labels : List ℕ) : Type 0 where
   pub counts-long : length counts ≡ length types
   pub lengths-long : length lengths ≡ length types
   pub few : length types ≤ maxNodes
   pub formed : firstBad 0 types counts lengths ≡ length types
   pub area : sum lengths ≤ length values
+  pub short : sum lengths ≤ maxBytes
+  pub labels-room : labelBytes * length types ≤ length labels
+
+-- one of at most so many rows and bytes of values
+pub record Within (types counts lengths values labels : List ℕ) (nodes bytes : ℕ) : Type 0 where
+  pub given : Given types counts lengths values labels
+  pub rows-fit : length types ≤ nodes
+  pub values-fit : sum lengths ≤ bytes
+
+-- Room for its stack too. Four bytes a row and the values are enough: children that keep the salt rule have at least a label's bytes.
+pub record Lent (types counts lengths values kinds heights sizes work labels : List ℕ) : Type 0 where
+  pub given : Given types counts lengths values labels
   pub kinds-room : length types ≤ length kinds
   pub heights-room : length types ≤ length heights
   pub sizes-room : length types ≤ length sizes
   pub work-room : 4 * length types + sum lengths ≤ length work
-  pub labels-room : labelBytes * length types ≤ length labels
+
+-- a root that waits alone has a whole label
+pub record Stands (s : Stack) (kinds work : List ℕ) : Type 0 where
+  pub kinds-room : s .depth ≤ length kinds
+  pub work-room : s .top ≤ length work
+  pub root : s .depth ≡ 1 → getD kinds 0 0 ≡ 0 → s .top ≡ 4 + labelBytes
 
 -- The verdict on the table's entries, and at each internal node's row its label.
 pub record Judges (types counts lengths values : List ℕ) (r : Judged) (labels : List ℕ) : Type 0 where

@@ -1,8 +1,5 @@
 -- What the stack engine answers.
 pub mod Engine
 pub mod Judging
--- How its areas hold the stack.
-pub mod Waiting
--- Laws of plain lists and Bools:
+-- Laws of plain lists:
 pub mod Lists
-pub mod Tests

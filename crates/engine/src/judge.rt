@@ -1,7 +1,8 @@
 // What is told of a table's rows.
-use crate::faults;
-use crate::stack;
-use crate::stack::Stack;
+use stack::Stack;
+use tables::areas::Full;
+use tables::areas::HEAD;
+use tables::areas::Small;
 use tables::form;
 use tables::limits::Slip;
 use tables::refusals::Refusal;
@@ -11,10 +12,13 @@ ghost use mathlib.Core.List.{List, map};
 ghost use Prim.Native.Nat.{_≤_};
 ghost use lib.Dec.{eqb};
 ghost use lib.ListN.{length, take, getD};
+ghost use Rattle.trees.specs.Rules.{maxNodes, maxBytes};
 ghost use Rattle.trees.specs.Rows.{Tag, left, faulty};
+ghost use Rattle.tables.specs.Areas.{smallNodes, smallBytes};
+ghost use Rattle.faults.specs.Waiting.{kindOf};
+ghost use Rattle.stack.specs.Areas.{pieces};
 ghost use Rattle.engine.specs.Engine.{told};
-ghost use Rattle.engine.specs.Waiting.{Stands, kindOf, pieces};
-ghost use Rattle.engine.specs.Judging.{Given, Judges};
+ghost use Rattle.engine.specs.Judging.{Given, Within, Lent, Stands, Judges};
 
 pub struct Judged {
     pub number: usize,
@@ -56,8 +60,8 @@ fn settled(s: Stack, kinds: &[u16], work: &[u8]) -> Judged
     let one = alone(s.depth, kinds);
     let mut label = [0u8; Slip::LABEL_BYTES];
     if one {
-        let end = stack::HEAD + Slip::LABEL_BYTES;
-        bytes::copy(&work[stack::HEAD..end], &mut label);
+        let end = HEAD + Slip::LABEL_BYTES;
+        bytes::copy(&work[HEAD..end], &mut label);
     }
     Judged {
         number: Refusal::ACCEPTED,
@@ -68,8 +72,9 @@ fn settled(s: Stack, kinds: &[u16], work: &[u8]) -> Judged
     }
 }
 
-// The rows in turn: the first refusal, or what waits at the end. The label of each internal node is left at its row in `labels`.
-pub fn judge(
+// The rows in turn, on a stack that is lent: the first refusal, or what waits at the end. The label of each internal node
+// is left at its row in `labels`.
+fn judge_in(
     types: &[u16],
     counts: &[u16],
     lengths: &[u16],
@@ -80,7 +85,7 @@ pub fn judge(
     work: &mut [u8],
     labels: &mut [u8],
 ) -> Judged
-    requires { ⌜ Given (now types) (now counts) (now lengths) (now values) (now kinds) (now heights) (now sizes) (now work) (now labels) ⌝ }
+    requires { ⌜ Lent (now types) (now counts) (now lengths) (now values) (now kinds) (now heights) (now sizes) (now work) (now labels) ⌝ }
     ensures { λ r. ⌜ Judges (now (types .entry)) (now (counts .entry)) (now (lengths .entry)) (now (values .entry)) r (now (labels .exit)) ⌝ }
 {
     let mut s = Stack {
@@ -123,4 +128,67 @@ pub fn judge(
         i += 1;
     }
     settled(s, kinds, work)
+}
+
+// With a stack for at most 64 rows and 1,024 bytes of values.
+fn small(types: &[u16], counts: &[u16], lengths: &[u16], values: &[u8], labels: &mut [u8]) -> Judged
+    requires { ⌜ Within (now types) (now counts) (now lengths) (now values) (now labels) smallNodes smallBytes ⌝ }
+    ensures { λ r. ⌜ Judges (now (types .entry)) (now (counts .entry)) (now (lengths .entry)) (now (values .entry)) r (now (labels .exit)) ⌝ }
+{
+    let mut kinds = [0u16; Small::NODES];
+    let mut heights = [0u16; Small::NODES];
+    let mut sizes = [0u16; Small::NODES];
+    let mut work = [0u8; Small::WORK];
+    judge_in(
+        types,
+        counts,
+        lengths,
+        values,
+        &mut kinds,
+        &mut heights,
+        &mut sizes,
+        &mut work,
+        labels,
+    )
+}
+
+// With a stack for any table.
+fn large(types: &[u16], counts: &[u16], lengths: &[u16], values: &[u8], labels: &mut [u8]) -> Judged
+    requires { ⌜ Within (now types) (now counts) (now lengths) (now values) (now labels) maxNodes maxBytes ⌝ }
+    ensures { λ r. ⌜ Judges (now (types .entry)) (now (counts .entry)) (now (lengths .entry)) (now (values .entry)) r (now (labels .exit)) ⌝ }
+{
+    let mut kinds = [0u16; Slip::MAX_NODES];
+    let mut heights = [0u16; Slip::MAX_NODES];
+    let mut sizes = [0u16; Slip::MAX_NODES];
+    let mut work = [0u8; Full::WORK];
+    judge_in(
+        types,
+        counts,
+        lengths,
+        values,
+        &mut kinds,
+        &mut heights,
+        &mut sizes,
+        &mut work,
+        labels,
+    )
+}
+
+// What the rows of a table tell, and the label of each internal node at its row in `labels`.
+pub fn judge(
+    types: &[u16],
+    counts: &[u16],
+    lengths: &[u16],
+    values: &[u8],
+    labels: &mut [u8],
+) -> Judged
+    requires { ⌜ Given (now types) (now counts) (now lengths) (now values) (now labels) ⌝ }
+    ensures { λ r. ⌜ Judges (now (types .entry)) (now (counts .entry)) (now (lengths .entry)) (now (values .entry)) r (now (labels .exit)) ⌝ }
+{
+    if types.len() <= Small::NODES {
+        if values.len() <= Small::BYTES {
+            return small(types, counts, lengths, values, labels);
+        }
+    }
+    large(types, counts, lengths, values, labels)
 }

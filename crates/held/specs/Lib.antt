@@ -1,6 +1,4 @@
 -- The tree of an accepted slip, what holding it leaves, and a tree's slip handed out.
-pub mod SlipTree
-pub mod ByteTrees
 pub mod Sent
 pub mod Holding
 pub mod HoldingLaws

@@ -1,27 +1,55 @@
 -- What was read and what the engine tells of it, put together.
 use Prim.Native.Nat.{ℕ, _≤_}
 use mathlib.Core.List.{List}
-use mathlib.Core.Path.{_≡_, sym, ap, _∙_, subst, subst₂}
+use mathlib.Core.Path.{_≡_, sym, ap, _∙_, subst}
+use native.Mathlib.Omega.{arith}
 use lib.ListN.{length, take, drop}
 use lib.Seq.{length-take-le}
 use Rattle.bits.specs.Bits.{bitsOf}
 use Rattle.trees.specs.Rows.{Entry, verdict}
-use Rattle.tables.specs.Tables.{Table, table, entries}
+use Rattle.tables.specs.Tables.{entries}
 use Rattle.codec.specs.Reading.{Reading, readAll}
 use Rattle.codec.specs.Reader.{headBits, FillGives}
 use Rattle.codec.specs.declared.fill.Filled.{Filled}
 use Rattle.engine.specs.Engine.{told, Labelled}
-use Rattle.engine.specs.Judging.{Judges}
+use Rattle.engine.specs.Judging.{Given, Judges}
 use Rattle.engine.specs.declared.judge.Judged.{Judged}
 use Rattle.sha2.specs.Sha256 as Sha256
 use Rattle.titles.specs.Compose.{composedText}
 use Rattle.slips.specs.declared.answer.Answer.{Answer}
 use Rattle.slips.specs.Check.{countOf, readingOf, bodyOf}
-use Rattle.slips.specs.declared.open.Opened.{Opened}
-use Rattle.slips.specs.Opening.{settledBy, Opens}
-use Rattle.slips.specs.Unpack.{tableOf, handedOf, Leaves}
-use Rattle.slips.specs.ColumnsLaws.{table-back}
+use Rattle.slips.specs.Opening.{Lent, settledBy, Opens}
 use Rattle.slips.specs.Verdicts.{settled-told}
+
+-- What was read lies within the columns and the area, which are as long as they came, and is what the engine asks.
+module _ {s : List ℕ} {n : ℕ} {types₀ counts₀ lengths₀ values₀ labels : List ℕ} (p : Lent s n types₀ counts₀ lengths₀ values₀ labels)
+    {x : Reading} {r : Filled} {types counts lengths values : List ℕ} (f : FillGives s n x r types counts lengths values)
+    (kt : length types ≡ length types₀) (kc : length counts ≡ length counts₀) (kl : length lengths ≡ length lengths₀)
+  where
+    pub types-in : r .rows ≤ length types
+    types-in = omega (arith, f .few, p .types-room)
+
+    pub counts-in : r .rows ≤ length counts
+    counts-in = omega (arith, f .few, p .counts-room)
+
+    pub lengths-in : r .rows ≤ length lengths
+    lengths-in = omega (arith, f .few, p .lengths-room)
+
+    pub read-given : Given (take (r .rows) types) (take (r .rows) counts) (take (r .rows) lengths) (take (r .used) values) labels
+    read-given =
+        let ts = length-take-le (r .rows) types types-in in
+        let cs = length-take-le (r .rows) counts counts-in in
+        let ls = length-take-le (r .rows) lengths lengths-in in
+        let vs = length-take-le (r .used) values (f .room) in
+        record {
+          counts-long = cs ∙ sym ts;
+          lengths-long = ls ∙ sym ts;
+          few = omega (arith, f .few, p .few);
+          formed = f .form ∙ sym ts;
+          area = omega (arith, f .used);
+          short = omega (arith, f .used, f .packed, f .within, p .long);
+          labels-room = omega (arith, f .few, p .labels-room);
+        }
 
 module _ (s : List ℕ) (n : ℕ) (counted : n ≡ countOf s) {r : Filled} {types counts lengths values : List ℕ}
     (f : FillGives s n (readAll n (drop headBits (bitsOf s))) r types counts lengths values)
@@ -54,23 +82,3 @@ module _ (s : List ℕ) (n : ℕ) (counted : n ≡ countOf s) {r : Filled} {type
           room = f .room;
           labelled = subst (λ (es : List Entry). Labelled Sha256.label composedText es (take (r .rows) counts) labels) rows-are (g .labelled);
         }
-
--- the table opened is that of the rows read
-pub opened-table : {s : List ℕ} {r : Opened} {types counts lengths values labels : List ℕ} → Opens s r types counts lengths values labels
-    → r .rows ≤ length types → r .rows ≤ length counts → r .rows ≤ length lengths
-    → table (take (r .rows) types) (take (r .rows) counts) (take (r .rows) lengths) (take (r .used) values) ≡ tableOf (readingOf s .rows)
-opened-table {s} {r} {types} {counts} {lengths} {values} o a b c =
-    let ts = length-take-le (r .rows) types a in
-    let cs = length-take-le (r .rows) counts b in
-    let ls = length-take-le (r .rows) lengths c in
-    let vs = length-take-le (r .used) values (o .room) in
-    sym
-    (table-back (take (r .rows) types) (take (r .rows) counts) (take (r .rows) lengths) (take (r .used) values)
-    (cs ∙ sym ts) (ls ∙ sym ts) (o .formed ∙ sym ts) (vs ∙ o .used))
-    ∙ ap tableOf (o .rows)
-
--- the same answer and the same table are handed out alike
-pub handed-as : {a a′ r : Answer} {t t′ : Table} (b : Table) {types counts lengths values : List ℕ} → a ≡ a′ → t ≡ t′
-    → Leaves (handedOf a t b) r types counts lengths values → Leaves (handedOf a′ t′ b) r types counts lengths values
-handed-as {r = r} b {types} {counts} {lengths} {values} e f l =
-    subst₂ (λ (x : Answer) (y : Table). Leaves (handedOf x y b) r types counts lengths values) e f l

@@ -1,17 +1,16 @@
--- What each call on slips answers and leaves in its buffers.
+-- What a call on slips answers, what a call with an output leaves in it, and what the check answers.
 pub mod Answers
+pub mod Output
 pub mod Check
 pub mod Opening
 pub mod HeaderLaws
 pub mod Verdicts
-pub mod Columns
-pub mod Unpack
-pub mod ColumnsLaws
-pub mod Pack
 pub mod Cases
-pub mod PackLaws
-pub mod SlipTrees
-pub mod RoundTrips
 pub mod InTurn
 pub mod OneAnswer
+-- The tree of an accepted slip.
+pub mod SlipTrees
+pub mod SlipTree
+pub mod SlipTreeLaws
+pub mod ByteTrees
 pub mod RowLabelLaws

@@ -3,27 +3,12 @@ use mathlib.Core.List.{List}
 use mathlib.Core.Path.{_≡_, sym, _∙_}
 use Prim.Native.Nat.{ℕ}
 use Rattle.slips.specs.declared.answer.Answer.{Answer}
-use Rattle.slips.specs.Unpack.{Unpacked, Leaves}
-use Rattle.slips.specs.Pack.{Packed, Packs}
+use Rattle.slips.specs.Output.{Packed, Packs}
 
 -- check
 pub check-one : {x r q : Answer} → r ≡ x → q ≡ x → r ≡ q
 check-one e f = e ∙ sym f
 
--- unpack: whatever the outcome u is
-pub unpack-one :
-    {u : Unpacked} {r q : Answer} {t c l v t′ c′ l′ v′ : List ℕ}
-    → Leaves u r t c l v
-    → Leaves u q t′ c′ l′ v′
-    → (r ≡ q) × (t ≡ t′) × (c ≡ c′) × (l ≡ l′) × (v ≡ v′)
-unpack-one a b = (
-  a .answered ∙ sym (b .answered),
-  a .types-left ∙ sym (b .types-left),
-  a .counts-left ∙ sym (b .counts-left),
-  a .lengths-left ∙ sym (b .lengths-left),
-  a .values-left ∙ sym (b .values-left),
-)
-
--- pack: whatever the outcome p is
+-- pack, and any call that writes one output: whatever the outcome p is
 pub pack-one : {p : Packed} {r q : Answer} {o o′ : List ℕ} → Packs p r o → Packs p q o′ → (r ≡ q) × (o ≡ o′)
 pack-one a b = (a .answered ∙ sym (b .answered), a .written ∙ sym (b .written))

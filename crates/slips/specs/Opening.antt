@@ -1,5 +1,5 @@
 -- What a slip is opened in, and what the opened areas hold.
-use Prim.Native.Nat.{ℕ, _+_, _*_, _≤_}
+use Prim.Native.Nat.{ℕ, _*_, _≤_}
 use mathlib.Core.Bool.{Bool, not, cond}
 use mathlib.Core.List.{List}
 use mathlib.Core.Path.{_≡_}
@@ -24,8 +24,8 @@ settledBy n rows whole rest j =
     (cond (not whole) (refused cutShort rows)
     (cond (not (j .one)) (refused notOneTree 0) (cond (paddingFits rest) (taken n (j .blocks) (j .label)) (refused badPadding 0))))
 
--- a slip of n entries whose header is taken, and room for its rows, its values, its stack and its labels
-pub record Lent (s : List ℕ) (n : ℕ) (types counts lengths values kinds heights sizes work labels : List ℕ) : Type 0 where
+-- a slip of n entries whose header is taken, and room for its rows, its values and its labels
+pub record Lent (s : List ℕ) (n : ℕ) (types counts lengths values labels : List ℕ) : Type 0 where
   pub head : headerBits ≤ 8 * length s
   pub long : length s ≤ maxBytes
   pub counted : n ≡ countOf s
@@ -34,10 +34,6 @@ pub record Lent (s : List ℕ) (n : ℕ) (types counts lengths values kinds heig
   pub counts-room : n ≤ length counts
   pub lengths-room : n ≤ length lengths
   pub values-room : length s ≤ length values
-  pub kinds-room : n ≤ length kinds
-  pub heights-room : n ≤ length heights
-  pub sizes-room : n ≤ length sizes
-  pub work-room : 4 * n + length s ≤ length work
   pub labels-room : labelBytes * n ≤ length labels
 
 -- the answer, the table of the rows read, and the label of each internal row
@@ -50,13 +46,6 @@ pub record Opens (s : List ℕ) (r : Opened) (types counts lengths values labels
   pub few : r .rows ≤ countOf s
   pub room : r .used ≤ length values
   pub labelled : Labelled Sha256.label composedText (readingOf s .rows) (take (r .rows) counts) labels
-
--- the areas of a small slip: the code's `Small::BYTES` and `Small::NODES`
-abbrev pub smallBytes : ℕ
-smallBytes = 1024
-
-abbrev pub smallNodes : ℕ
-smallNodes = 64
 
 -- a slip of n entries whose header is taken, of at most `bytes` bytes and `nodes` nodes
 pub record Counted (s : List ℕ) (n bytes nodes : ℕ) : Type 0 where

@@ -1,18 +1,19 @@
 // The check of a slip.
 use crate::answer;
 use crate::answer::Answer;
-use crate::areas::Full;
-use crate::areas::Small;
 use crate::header;
 use crate::open;
+use tables::areas::Full;
+use tables::areas::Small;
 use tables::limits::Slip;
 use tables::refusals::Refusal;
 ghost use mathlib.Core.Path.{_≡_};
+ghost use Rattle.trees.specs.Rules.{maxBytes, maxNodes};
+ghost use Rattle.tables.specs.Areas.{smallBytes, smallNodes};
 ghost use Rattle.sha2.specs.Sha256 as Sha256;
 ghost use Rattle.titles.specs.Compose.{composedText};
 ghost use Rattle.slips.specs.Check.{bodyOf, checkOf};
-ghost use Rattle.slips.specs.Opening.{Counted, smallBytes, smallNodes};
-ghost use Rattle.trees.specs.Rules.{maxBytes, maxNodes};
+ghost use Rattle.slips.specs.Opening.{Counted};
 
 // In areas for a slip of at most 1,024 bytes and 64 nodes.
 fn small(s: &[u8], n: usize) -> Answer
@@ -23,10 +24,6 @@ fn small(s: &[u8], n: usize) -> Answer
     let mut counts = [0u16; Small::NODES];
     let mut lengths = [0u16; Small::NODES];
     let mut values = [0u8; Small::BYTES];
-    let mut kinds = [0u16; Small::NODES];
-    let mut heights = [0u16; Small::NODES];
-    let mut sizes = [0u16; Small::NODES];
-    let mut work = [0u8; Small::WORK];
     let mut labels = [0u8; Small::LABELS];
     let o = open::open_in(
         s,
@@ -35,10 +32,6 @@ fn small(s: &[u8], n: usize) -> Answer
         &mut counts,
         &mut lengths,
         &mut values,
-        &mut kinds,
-        &mut heights,
-        &mut sizes,
-        &mut work,
         &mut labels,
     );
     o.answer
@@ -53,10 +46,6 @@ fn large(s: &[u8], n: usize) -> Answer
     let mut counts = [0u16; Slip::MAX_NODES];
     let mut lengths = [0u16; Slip::MAX_NODES];
     let mut values = [0u8; Slip::MAX_BYTES];
-    let mut kinds = [0u16; Slip::MAX_NODES];
-    let mut heights = [0u16; Slip::MAX_NODES];
-    let mut sizes = [0u16; Slip::MAX_NODES];
-    let mut work = [0u8; Full::WORK];
     let mut labels = [0u8; Full::LABELS];
     let o = open::open_in(
         s,
@@ -65,10 +54,6 @@ fn large(s: &[u8], n: usize) -> Answer
         &mut counts,
         &mut lengths,
         &mut values,
-        &mut kinds,
-        &mut heights,
-        &mut sizes,
-        &mut work,
         &mut labels,
     );
     o.answer

@@ -1,10 +1,5 @@
-// Slips of the deep store: check, pack and unpack.
+// Slips of the deep store: the check, and what every call on slips shares.
 pub mod answer;
-pub mod areas;
-pub mod calls;
 pub mod check;
-pub mod handing;
 pub mod header;
 pub mod open;
-pub mod pack;
-pub mod unpack;

@@ -63,13 +63,9 @@ pub fn open_in(
     counts: &mut [u16],
     lengths: &mut [u16],
     values: &mut [u8],
-    kinds: &mut [u16],
-    heights: &mut [u16],
-    sizes: &mut [u16],
-    work: &mut [u8],
     labels: &mut [u8],
 ) -> Opened
-    requires { ⌜ Lent (now s) n (now types) (now counts) (now lengths) (now values) (now kinds) (now heights) (now sizes) (now work) (now labels) ⌝ }
+    requires { ⌜ Lent (now s) n (now types) (now counts) (now lengths) (now values) (now labels) ⌝ }
     ensures { λ r. ⌜ Opens (now (s .entry)) r (now (types .exit)) (now (counts .exit)) (now (lengths .exit)) (now (values .exit)) (now (labels .exit)) ⌝ }
 {
     let f = fill::fill(s, n, types, counts, lengths, values);
@@ -80,10 +76,6 @@ pub fn open_in(
         &counts[..rows],
         &lengths[..rows],
         &values[..used],
-        kinds,
-        heights,
-        sizes,
-        work,
         labels,
     );
     Opened {

@@ -1,4 +1,5 @@
-// The limits of a slip, the refusal numbers, and the form of a table's rows.
+// The limits of a slip, the refusal numbers, the form of a table's rows, and how large areas are.
+pub mod areas;
 pub mod form;
 pub mod limits;
 pub mod refusals;

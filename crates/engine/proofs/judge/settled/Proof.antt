@@ -11,8 +11,8 @@ use lib.ListN.{length, take, drop, getD, length-take, length-drop}
 use Rattle.trees.specs.Tests.{and-left, and-right}
 use Rattle.trees.specs.Rules.{labelBytes}
 use Rattle.engine.specs.Engine.{noLabel}
-use Rattle.engine.specs.Waiting.{Stands}
-use Rattle.engine.specs.declared.stack.Stack.{Stack}
+use Rattle.engine.specs.Judging.{Stands}
+use Rattle.stack.specs.declared.Stack.{Stack}
 use Rattle.engine.specs.Lists.{written-over}
 use Rattle.engine.proofs.Telling.{answer, one-is, told-one, told-none}
 use Rattle.engine.proofs.judge.settled.Statement.{statement}

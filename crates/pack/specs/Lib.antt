@@ -1,0 +1,4 @@
+-- What the packer answers and leaves in its output; and packing and unpacking undo each other.
+pub mod Pack
+pub mod PackLaws
+pub mod RoundTrips

@@ -1,0 +1,67 @@
+-- What the packer answers and leaves: "Packer: columns unequal or over 1,023 rows (16), 4, each row (16), values area not the sum of
+-- lengths (16), 1, then 5 to 8 by entry, 9, 11."
+use Prim.Native.Nat.{ℕ, _≤_}
+use mathlib.Core.Bool.{Bool, not, cond}
+use mathlib.Core.List.{List}
+use mathlib.Core.Path.{_≡_}
+use lib.Dec.{ltb, eqb}
+use lib.ListN.{length}
+use Rattle.trees.specs.Rules.{maxBytes}
+use Rattle.trees.specs.Rows.{Entry, Verdict, faulty, left, verdict}
+use Rattle.tables.specs.Refusals.{accepted, tooLong, noNodes, notOneTree, noRoom, badTable}
+use Rattle.tables.specs.Tables.{Table, entries, columnsFit, firstBad, sum}
+use Rattle.tables.specs.TablesLaws.{Formed}
+use Rattle.codec.specs.Writing.{slipOf}
+use Rattle.engine.specs.Engine.{oneTree, rootLabel}
+use Rattle.slips.specs.declared.answer.Answer.{Answer}
+use Rattle.pack.specs.declared.Fault.{Fault}
+use Rattle.slips.specs.Answers.{refused, taken}
+use Rattle.slips.specs.Output.{Packed, over}
+
+-- the table's entries
+abbrev pub rowsOf : Table → List Entry
+rowsOf t = entries (t .types) (t .counts) (t .lengths) (t .values)
+
+-- the number of the first row that is not of the form; the number of rows where all are
+abbrev pub badRow : Table → ℕ
+badRow t = firstBad 0 (t .types) (t .counts) (t .lengths)
+
+-- "columns unequal or over 1,023 rows (16), 4, each row (16), values area not the sum of lengths (16)": the refusal and its place
+unfoldable pub faultOf : Table → Fault
+faultOf t =
+    cond (not (columnsFit (t .types) (t .counts) (t .lengths))) (record { number = badTable; place = 0 })
+    (cond (eqb (length (t .types)) 0) (record { number = noNodes; place = 0 })
+    (cond (ltb (badRow t) (length (t .types))) (record { number = badTable; place = badRow t })
+    (cond (eqb (length (t .values)) (sum (t .lengths))) (record { number = accepted; place = 0 }) (record { number = badTable; place = 0 }))))
+
+-- "then 5 to 8 by entry, 9, 11", where the output has so much room
+unfoldable pub judgedAs : List Entry → ℕ → Verdict → Answer
+judgedAs es room (faulty k i) = refused k i
+judgedAs es room (left st b) =
+    cond (not (oneTree st)) (refused notOneTree 0)
+    (cond (ltb room (length (slipOf es))) (refused noRoom 0) (taken (length (slipOf es)) b (rootLabel st)))
+
+module _ (H : List ℕ → List ℕ) (composed : List ℕ → Bool) where
+  -- the packer's answer
+  unfoldable pub answerOf : Table → ℕ → Answer
+  answerOf t room =
+      cond (not (eqb (faultOf t .number) accepted)) (refused (faultOf t .number) (faultOf t .place))
+      (cond (ltb maxBytes (length (slipOf (rowsOf t)))) (refused tooLong 0) (judgedAs (rowsOf t) room (verdict H composed (rowsOf t))))
+
+  -- the packing of a table into an output: the slip where it is accepted, and nothing else is written
+  unfoldable pub packOf : Table → List ℕ → Packed
+  packOf t out =
+      record {
+        answer = answerOf t (length out);
+        bytes = cond (eqb (answerOf t (length out) .number) accepted) (over (slipOf (rowsOf t)) out) out;
+      }
+
+-- a table of the form whose slip has room
+pub record Roomy (t : Table) (room : ℕ) : Type 0 where
+  pub form : Formed t
+  pub fits : length (slipOf (rowsOf t)) ≤ room
+
+-- the packer's answer, and where it accepts what it has found
+pub record Answered (t : Table) (room : ℕ) (a r : Answer) : Type 0 where
+  pub answer : r ≡ a
+  pub roomy : r .number ≡ accepted → Roomy t room

@@ -1,0 +1,3 @@
+-- How the areas hold the stack, and the pieces in the work area.
+pub mod Areas
+pub mod PieceLaws

@@ -1,0 +1,10 @@
+-- The areas of a small slip.
+use Prim.Native.Nat.{ℕ}
+
+-- the code's `Small::BYTES`
+abbrev pub smallBytes : ℕ
+smallBytes = 1024
+
+-- the code's `Small::NODES`
+abbrev pub smallNodes : ℕ
+smallNodes = 64

@@ -1,0 +1,63 @@
+-- What the unpacker answers and leaves: "Unpacker: slip, 11."
+use Prim.Native.Nat.{ℕ}
+use mathlib.Core.Bool.{Bool, not, cond, _||_}
+use mathlib.Core.List.{List, map}
+use mathlib.Core.Path.{_≡_}
+use lib.Dec.{ltb, eqb}
+use lib.ListN.{length}
+use Rattle.trees.specs.Rows.{Entry}
+use Rattle.tables.specs.Refusals.{accepted, noRoom}
+use Rattle.tables.specs.Tables.{Table}
+use Rattle.slips.specs.declared.answer.Answer.{Answer}
+use Rattle.slips.specs.Answers.{refused}
+use Rattle.slips.specs.Output.{over}
+use Rattle.slips.specs.Check.{readingOf, checkOf}
+use Rattle.unpack.specs.Columns.{typeCell, countCell, lengthCell, valuesOf}
+
+-- an answer, and what the buffers hold
+pub record Unpacked : Type 0 where
+  pub answer : Answer
+  pub buffers : Table
+
+-- one of the four is shorter than what it is to hold
+unfoldable pub lacksRoom : Table → ℕ → ℕ → ℕ → ℕ → Bool
+lacksRoom t types counts lengths values =
+    ltb types (length (t .types))
+    || ltb counts (length (t .counts))
+    || ltb lengths (length (t .lengths))
+    || ltb values (length (t .values))
+
+-- "one row an entry in each column, and the value bytes"
+abbrev pub overAll : Table → Table → Table
+overAll t b =
+    record {
+      types = over (t .types) (b .types);
+      counts = over (t .counts) (b .counts);
+      lengths = over (t .lengths) (b .lengths);
+      values = over (t .values) (b .values);
+    }
+
+-- "slip, 11": an answer to a slip, and its table for the buffers b
+unfoldable pub handedOf : Answer → Table → Table → Unpacked
+handedOf a t b =
+    cond (not (eqb (a .number) accepted)) (record { answer = a; buffers = b })
+    (cond (lacksRoom t (length (b .types)) (length (b .counts)) (length (b .lengths)) (length (b .values)))
+    (record { answer = refused noRoom 0; buffers = b })
+    (record { answer = a; buffers = overAll t b }))
+
+-- the table of a list of entries
+abbrev pub tableOf : List Entry → Table
+tableOf es = record { types = map typeCell es; counts = map countCell es; lengths = map lengthCell es; values = valuesOf es }
+
+-- an answer r and buffers at exit are the outcome's
+pub record Leaves (u : Unpacked) (r : Answer) (types counts lengths values : List ℕ) : Type 0 where
+  pub answered : r ≡ u .answer
+  pub types-left : types ≡ u .buffers .types
+  pub counts-left : counts ≡ u .buffers .counts
+  pub lengths-left : lengths ≡ u .buffers .lengths
+  pub values-left : values ≡ u .buffers .values
+
+module _ (H : List ℕ → List ℕ) (composed : List ℕ → Bool) where
+  -- the unpacking of a slip into four buffers
+  unfoldable pub unpackOf : List ℕ → Table → Unpacked
+  unpackOf s b = handedOf (checkOf H composed s) (tableOf (readingOf s .rows)) b
