@@ -14,11 +14,13 @@ pub const LINE: usize = 400000;
 // What an area holds.
 pub const AREA: usize = LINE / 2;
 
-// The most fields that a line has, and one more.
-pub const ENDS: usize = 10;
+// The most fields that a line has.
+const FIELDS: usize = 9;
+
+pub const ENDS: usize = FIELDS + 1;
 
 // Where a field that was decoded ends in its area.
-enum Put {
+pub enum Put {
     To(usize),
     Bad,
 }
@@ -84,7 +86,8 @@ fn decoded(
     list(field, cells, from)
 }
 
-fn hex(field: &[u8], area: &mut [u8; AREA], from: usize) -> Put {
+// Bytes in hex, put into the area from a place on.
+pub fn hex(field: &[u8], area: &mut [u8; AREA], from: usize) -> Put {
     if field.len() == 0 || field.len() % 2 != 0 {
         return Put::Bad;
     }
@@ -187,30 +190,32 @@ fn digit(b: u8) -> u8
 }
 
 // The bytes of field k.
-pub fn text<'a>(bytes: &'a [u8; AREA], ends: &[usize; ENDS], k: usize) -> &'a [u8]
-    requires { ⌜ k < 9 ⌝ }
-{
+pub fn text<'a>(bytes: &'a [u8; AREA], ends: &[usize; ENDS], k: usize) -> &'a [u8] {
+    if FIELDS <= k {
+        return parts::bytes(bytes, 0, 0);
+    }
     parts::bytes(bytes, ends[k], ends[k + 1])
 }
 
 // The numbers of field k, a list.
-pub fn column<'a>(cells: &'a [u16; AREA], ends: &[usize; ENDS], k: usize) -> &'a [u16]
-    requires { ⌜ k < 9 ⌝ }
-{
+pub fn column<'a>(cells: &'a [u16; AREA], ends: &[usize; ENDS], k: usize) -> &'a [u16] {
+    if FIELDS <= k {
+        return parts::cells(cells, 0, 0);
+    }
     parts::cells(cells, ends[k], ends[k + 1])
 }
 
 // Field k, a number, as it stands in its cell.
-pub fn cell(cells: &[u16; AREA], ends: &[usize; ENDS], k: usize) -> u16
-    requires { ⌜ k < 9 ⌝ }
-{
+pub fn cell(cells: &[u16; AREA], ends: &[usize; ENDS], k: usize) -> u16 {
+    if FIELDS <= k {
+        return 0;
+    }
     let at = ends[k];
     if at < AREA { cells[at] } else { 0 }
 }
 
 // Field k, a number.
 pub fn number(cells: &[u16; AREA], ends: &[usize; ENDS], k: usize) -> usize
-    requires { ⌜ k < 9 ⌝ }
     ensures { λ r. ⌜ r ≤ 65535 ⌝ }
 {
     cell(cells, ends, k) as usize
