@@ -3,6 +3,9 @@
 //
 // All fields of a line are decoded into two areas, one of bytes and one of cells. Field k has the places from
 // ends[k] up to ends[k + 1] of the area of its kind. A byte and a number each take two bytes of the line at least.
+//
+// A function that decodes is told how far the area is filled, and answers how far it is filled then, or BAD. Of BAD, or
+// of a full area, comes BAD: so it need be looked at only once, at the end.
 use crate::parts;
 use bytes::scan;
 ghost use Prim.Native.Nat.{_≤_, _<_};
@@ -19,7 +22,12 @@ const FIELDS: usize = 9;
 
 pub const ENDS: usize = FIELDS + 1;
 
-// Where a field that was decoded ends in its area.
+const BAD: usize = usize::MAX;
+
+// Over every number that a cell holds.
+const OVER: u32 = 65536;
+
+// Where bytes that were decoded end in their area.
 pub enum Put {
     To(usize),
     Bad,
@@ -29,12 +37,6 @@ pub enum Put {
 pub enum Whole {
     Is(u16),
     Not,
-}
-
-// A number that stands in a text, and where it ends.
-struct Numeral {
-    value: u32,
-    next: usize,
 }
 
 // Decodes the fields that `shape` names, a letter each: b for bytes, l for a list, n for a number. False where
@@ -49,6 +51,7 @@ pub fn read(
     requires { ⌜ length (now shape) < 10 ⌝ }
 {
     ends[0] = 0;
+    let mut to = 0;
     let mut at = 0;
     let mut k = 0;
     while k < shape.len() {
@@ -57,14 +60,11 @@ pub fn read(
         }
         let start = at + 1;
         at = scan::find(line, start, line.len(), b' ');
-        let put = decoded(&line[start..at], shape[k], ends[k], cells, bytes);
-        let Put::To(to) = put else {
-            return false;
-        };
+        to = decoded(&line[start..at], shape[k], to, cells, bytes);
         k += 1;
         ends[k] = to;
     }
-    at == line.len()
+    to != BAD && at == line.len()
 }
 
 fn decoded(
@@ -73,115 +73,125 @@ fn decoded(
     from: usize,
     cells: &mut [u16; AREA],
     bytes: &mut [u8; AREA],
-) -> Put {
+) -> usize {
     if kind == b'n' {
         return one(field, cells, from);
     }
     if check::same(field, b"-") {
-        return Put::To(from);
+        return from;
     }
     if kind == b'b' {
-        return hex(field, bytes, from);
+        return octets(field, bytes, from);
     }
     list(field, cells, from)
 }
 
-// Bytes in hex, put into the area from a place on.
+// Bytes in hex.
 pub fn hex(field: &[u8], area: &mut [u8; AREA], from: usize) -> Put {
-    if field.len() == 0 || field.len() % 2 != 0 {
+    let to = octets(field, area, from);
+    if to == BAD {
         return Put::Bad;
-    }
-    let mut to = from;
-    let mut i = 0;
-    while i + 1 < field.len() {
-        let high = digit(field[i]);
-        let low = digit(field[i + 1]);
-        if 15 < high {
-            return Put::Bad;
-        }
-        if 15 < low {
-            return Put::Bad;
-        }
-        if AREA <= to {
-            return Put::Bad;
-        }
-        area[to] = high * 16 + low;
-        to += 1;
-        i += 2;
     }
     Put::To(to)
 }
 
-fn list(field: &[u8], area: &mut [u16; AREA], from: usize) -> Put {
+fn octets(field: &[u8], area: &mut [u8; AREA], from: usize) -> usize {
+    if field.len() == 0 || field.len() % 2 != 0 {
+        return BAD;
+    }
+    let mut to = from;
+    let mut i = 0;
+    while i + 1 < field.len() {
+        to = octet(digit(field[i]), digit(field[i + 1]), area, to);
+        i += 2;
+    }
+    to
+}
+
+// Puts the byte of two digits into the area.
+fn octet(high: u8, low: u8, area: &mut [u8; AREA], to: usize) -> usize {
+    if 15 < high {
+        return BAD;
+    }
+    if 15 < low {
+        return BAD;
+    }
+    if AREA <= to {
+        return BAD;
+    }
+    area[to] = high * 16 + low;
+    to + 1
+}
+
+fn list(field: &[u8], area: &mut [u16; AREA], from: usize) -> usize {
     let mut to = from;
     let mut at = 0;
     while at < field.len() {
-        let n = numeral_at(field, at);
-        let next = n.next;
-        if next == at {
-            return Put::Bad;
+        let end = scan::find(field, at, field.len(), b',');
+        to = one(&field[at..end], area, to);
+        if end == field.len() {
+            return to;
         }
-        if AREA <= to {
-            return Put::Bad;
-        }
-        area[to] = n.value as u16;
-        to += 1;
-        if next == field.len() {
-            return Put::To(to);
-        }
-        if field[next] != b',' {
-            return Put::Bad;
-        }
-        at = next + 1;
+        at = end + 1;
     }
-    Put::Bad
+    BAD
 }
 
-fn one(field: &[u8], area: &mut [u16; AREA], from: usize) -> Put {
-    let Whole::Is(value) = whole_of(field) else {
-        return Put::Bad;
-    };
-    if AREA <= from {
-        return Put::Bad;
+// Puts the number that a word is into the area.
+fn one(word: &[u8], area: &mut [u16; AREA], to: usize) -> usize {
+    let value = number_of(word);
+    if OVER <= value {
+        return BAD;
     }
-    area[from] = value;
-    Put::To(from + 1)
+    if AREA <= to {
+        return BAD;
+    }
+    area[to] = value as u16;
+    to + 1
 }
 
 // The number that a word is from its first byte to its last.
 pub fn whole_of(word: &[u8]) -> Whole {
-    let n = numeral_at(word, 0);
-    if n.next == 0 || n.next != word.len() {
+    let value = number_of(word);
+    if OVER <= value {
         return Whole::Not;
     }
-    Whole::Is(n.value as u16)
+    Whole::Is(value as u16)
 }
 
-// The number from `at` on. Where there is none, or one over 65,535, it ends where it starts.
-fn numeral_at(text: &[u8], at: usize) -> Numeral
-    requires { ⌜ at ≤ length (now text) ⌝ }
-    ensures { λ r. ⌜ (at ≤ r .next) × (r .next ≤ length (now (text .entry))) × (r .value < 65536) ⌝ }
+// The same, or OVER.
+fn number_of(word: &[u8]) -> u32
+    ensures { λ r. ⌜ r ≤ 65536 ⌝ }
 {
-    let mut value: u32 = 0;
-    let mut i = at;
-    while i < text.len() {
-        let d = digit(text[i]);
-        if 9 < d {
-            return Numeral { value, next: i };
-        }
-        value = value * 10 + d as u32;
-        if 65535 < value {
-            return Numeral { value: 0, next: at };
-        }
+    if word.len() == 0 {
+        return OVER;
+    }
+    let mut value = 0;
+    let mut i = 0;
+    while i < word.len() {
+        value = longer(value, digit(word[i]));
         i += 1;
     }
-    Numeral { value, next: i }
+    value
+}
+
+// A number with a digit behind it, or OVER.
+fn longer(value: u32, digit: u8) -> u32
+    requires { ⌜ value ≤ 65536 ⌝ }
+    ensures { λ r. ⌜ r ≤ 65536 ⌝ }
+{
+    if OVER <= value {
+        return OVER;
+    }
+    if 9 < digit {
+        return OVER;
+    }
+    let long = value * 10 + digit as u32;
+    if long < OVER { long } else { OVER }
 }
 
 // The digit that a byte stands for; 16 for any other byte.
-fn digit(b: u8) -> u8
-    ensures { λ r. ⌜ r ≤ 16 ⌝ }
-{
+fn digit(b: u8) -> u8 {
     match b {
         b'0'..=b'9' => b - 48,
         b'a'..=b'f' => b - 87,
@@ -191,26 +201,17 @@ fn digit(b: u8) -> u8
 
 // The bytes of field k.
 pub fn text<'a>(bytes: &'a [u8; AREA], ends: &[usize; ENDS], k: usize) -> &'a [u8] {
-    if FIELDS <= k {
-        return parts::bytes(bytes, 0, 0);
-    }
-    parts::bytes(bytes, ends[k], ends[k + 1])
+    parts::bytes(bytes, start(ends, k), end(ends, k))
 }
 
 // The numbers of field k, a list.
 pub fn column<'a>(cells: &'a [u16; AREA], ends: &[usize; ENDS], k: usize) -> &'a [u16] {
-    if FIELDS <= k {
-        return parts::cells(cells, 0, 0);
-    }
-    parts::cells(cells, ends[k], ends[k + 1])
+    parts::cells(cells, start(ends, k), end(ends, k))
 }
 
 // Field k, a number, as it stands in its cell.
 pub fn cell(cells: &[u16; AREA], ends: &[usize; ENDS], k: usize) -> u16 {
-    if FIELDS <= k {
-        return 0;
-    }
-    let at = ends[k];
+    let at = start(ends, k);
     if at < AREA { cells[at] } else { 0 }
 }
 
@@ -219,4 +220,13 @@ pub fn number(cells: &[u16; AREA], ends: &[usize; ENDS], k: usize) -> usize
     ensures { λ r. ⌜ r ≤ 65535 ⌝ }
 {
     cell(cells, ends, k) as usize
+}
+
+// Where field k starts and ends in its area.
+fn start(ends: &[usize; ENDS], k: usize) -> usize {
+    if k < FIELDS { ends[k] } else { 0 }
+}
+
+fn end(ends: &[usize; ENDS], k: usize) -> usize {
+    if k < FIELDS { ends[k + 1] } else { 0 }
 }
