@@ -2,7 +2,7 @@
 mod pairs;
 mod repertoire;
 mod scan;
-mod utf8;
+pub mod utf8;
 
 ghost use mathlib.Core.Path.{_≡_};
 ghost use Rattle.titles.specs.Compose.{Met, composedText};
