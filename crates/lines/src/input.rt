@@ -1,15 +1,16 @@
 // The lines of standard input, asked for one after the other. What was read stands in one area, and a line stands there
 // from `from` up to `to` until the next is asked for.
-use crate::fields;
 use crate::reading;
 use bytes::scan;
 use libc::STDIN_FILENO;
 ghost use Prim.Native.Nat.{_≤_, _<_};
 ghost use Rattle.lines.specs.Input.{Stands, room};
 
-// One byte more than a line of fields has. A line that fills the area is handed out as far as it goes there, and the
-// rest of it is passed over.
-pub const ROOM: usize = fields::LINE + 1;
+// The longest line that is handed out whole, in bytes.
+pub const LINE: usize = 400000;
+
+// A line that fills the area is handed out as far as it goes there, and the rest of it is passed over.
+pub const ROOM: usize = LINE + 1;
 
 pub struct Input {
     // Whether a line stands there, whether nothing comes behind it, and whether that is since a read failed.
@@ -143,10 +144,21 @@ fn read(area: &mut [u8; ROOM], rest: usize, skip: bool) -> Input
     if rest < f.held {
         return waiting(0, rest, f.held, skip);
     }
+    if f.failed {
+        return ended(0, true);
+    }
+    ended(rest, false)
+}
+
+// The front of a line as the last one.
+fn ended(rest: usize, failed: bool) -> Input
+    requires { ⌜ rest < room ⌝ }
+    ensures { λ s. ⌜ Stands (s .from) (s .seen) (s .held) ⌝ }
+{
     Input {
-        line: 0 < rest && !f.failed,
+        line: 0 < rest,
         over: true,
-        failed: f.failed,
+        failed,
         from: 0,
         to: rest,
         seen: rest,

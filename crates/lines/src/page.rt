@@ -133,22 +133,26 @@ pub fn list(page: &mut [u8; BYTES], at: usize, cells: &[u16]) -> usize {
     if cells.len() == 0 {
         return byte(page, at, b'-');
     }
-    let mut n = decimal(page, at, wide(cells[0]));
-    let mut i = 1;
+    let mut n = at;
+    let mut i = 0;
     while i < cells.len() {
-        n = byte(page, n, b',');
-        n = decimal(page, n, wide(cells[i]));
+        n = comma(page, n, i);
+        n = decimal(page, n, parts::cell(cells, i));
         i += 1;
     }
     n
+}
+
+// A comma before each but the first.
+fn comma(page: &mut [u8; BYTES], at: usize, i: usize) -> usize {
+    if i == 0 {
+        return at;
+    }
+    byte(page, at, b',')
 }
 
 fn glyph(digit: u8) -> u8
     requires { ⌜ digit < 16 ⌝ }
 {
     if digit < 10 { 48 + digit } else { 87 + digit }
-}
-
-fn wide(cell: u16) -> usize {
-    cell as usize
 }

@@ -6,13 +6,14 @@
 //
 // A function that decodes is told how far the area is filled, and answers how far it is filled then, or BAD. Of BAD, or
 // of a full area, comes BAD: so it need be looked at only once, at the end.
-use crate::parts;
 use bytes::scan;
+use lines::input;
+use lines::parts;
 ghost use Prim.Native.Nat.{_≤_, _<_};
 ghost use lib.ListN.{length};
 
 // The longest line, in bytes.
-pub const LINE: usize = 400000;
+pub const LINE: usize = input::LINE;
 
 // What an area holds.
 pub const AREA: usize = LINE / 2;
@@ -96,13 +97,13 @@ pub fn hex(field: &[u8], area: &mut [u8; AREA], from: usize) -> Put {
 }
 
 fn octets(field: &[u8], area: &mut [u8; AREA], from: usize) -> usize {
-    if field.len() == 0 || field.len() % 2 != 0 {
+    if field.len() == 0 {
         return BAD;
     }
     let mut to = from;
     let mut i = 0;
-    while i + 1 < field.len() {
-        to = octet(digit(field[i]), digit(field[i + 1]), area, to);
+    while i < field.len() {
+        to = octet(digit(field, i), digit(field, i + 1), area, to);
         i += 2;
     }
     to
@@ -169,7 +170,7 @@ fn number_of(word: &[u8]) -> u32
     let mut value = 0;
     let mut i = 0;
     while i < word.len() {
-        value = longer(value, digit(word[i]));
+        value = longer(value, digit(word, i));
         i += 1;
     }
     value
@@ -190,8 +191,12 @@ fn longer(value: u32, digit: u8) -> u32
     if long < OVER { long } else { OVER }
 }
 
-// The digit that a byte stands for; 16 for any other byte.
-fn digit(b: u8) -> u8 {
+// The digit that the byte at i stands for; 16 for any other byte, and past the end.
+fn digit(text: &[u8], i: usize) -> u8 {
+    if text.len() <= i {
+        return 16;
+    }
+    let b = text[i];
     match b {
         b'0'..=b'9' => b - 48,
         b'a'..=b'f' => b - 87,

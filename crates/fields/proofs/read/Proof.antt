@@ -1,9 +1,9 @@
--- `lines::fields::read` is safe and ends: a field ends in the line, and there are fewer fields than ends.
+-- `fields::read` is safe and ends: a field ends in the line, and there are fewer fields than ends.
 use Prim.Native.Nat.{_≤_, _-_}
 use lib.ListN.{length}
 use borrow.Author.Needs.{needs}
-use Rattle.lines.proofs.fields.read.Statement.{statement}
-use Rattle.lines.proofs.fields.read.Tie as tie
+use Rattle.fields.proofs.read.Statement.{statement}
+use Rattle.fields.proofs.read.Tie as tie
 
 abbrev Inv-loop : tie.InvT-loop
 Inv-loop line shape cells₀ bytes₀ ends₀ to₀ at₀ k₀ cells bytes ends to at k = (at ≤ length line) × (k ≤ length shape)

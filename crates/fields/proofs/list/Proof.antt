@@ -1,9 +1,9 @@
--- `lines::fields::list` is safe and ends.
+-- `fields::list` is safe and ends.
 use Prim.Native.Nat.{_≤_, _-_}
 use lib.ListN.{length}
 use borrow.Author.Needs.{needs}
-use Rattle.lines.proofs.fields.list.Statement.{statement}
-use Rattle.lines.proofs.fields.list.Tie as tie
+use Rattle.fields.proofs.list.Statement.{statement}
+use Rattle.fields.proofs.list.Tie as tie
 
 abbrev Inv-loop : tie.InvT-loop
 Inv-loop field area₀ from to₀ at₀ area to at = at ≤ length field
