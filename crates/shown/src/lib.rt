@@ -60,7 +60,7 @@ fn pairs(
     let mut start = 0;
     let mut row = 0;
     while row < types.len() {
-        let kind = parts::cell(types, row);
+        let kind = wide(types[row]);
         let end = parts::end(values, start, parts::cell(lengths, row));
         if Slip::FIRST_TEXT <= kind {
             at = pair(text, at, kind, parts::bytes(values, start, end));
@@ -79,4 +79,8 @@ fn pair(text: &mut [u8; page::BYTES], from: usize, kind: usize, value: &[u8]) ->
     at = page::byte(text, at, b' ');
     at = page::hex(text, at, value);
     page::byte(text, at, b'\n')
+}
+
+fn wide(cell: u16) -> usize {
+    cell as usize
 }
