@@ -2,7 +2,7 @@
 // a pruning list, two bytes a name, or a second slip.
 use libc::STDIN_FILENO;
 use lines::parts;
-ghost use Prim.Native.Nat.{_≤_};
+ghost use Prim.Native.Nat.{_≤_, _<_};
 
 // The longest part or output that 16 bits announce, both parts, and the most names that a part holds.
 pub const ROOM: usize = 65535;
@@ -33,12 +33,18 @@ pub fn announced() -> Next {
         return Next::End;
     }
     Next::Is(Task {
-        call: both(head[0], head[1]),
-        times: both(head[2], head[3]),
-        first: both(head[4], head[5]),
-        second: both(head[6], head[7]),
-        room: both(head[8], head[9]),
+        call: number(&head, 0),
+        times: number(&head, 1),
+        first: number(&head, 2),
+        second: number(&head, 3),
+        room: number(&head, 4),
     })
+}
+
+fn number(head: &[u8; HEAD], k: usize) -> u16
+    requires { ⌜ k < 5 ⌝ }
+{
+    both(head[2 * k], head[2 * k + 1])
 }
 
 // Reads n bytes to the front of an area.
