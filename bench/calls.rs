@@ -16,8 +16,6 @@ use std::io::{BufReader, Read};
 struct Tally {
     accepted: u64,
     refused: u64,
-    lengths: u64,
-    blocks: u64,
     sum: u64,
     sums: u64,
 }
@@ -27,8 +25,6 @@ impl Tally {
         self.grow_by(&a.label);
         self.accepted += u64::from(a.number == 0);
         self.refused += u64::from(a.number != 0);
-        self.lengths += a.length as u64;
-        self.blocks += a.blocks as u64;
         for n in [a.number, a.place, a.second, a.side, a.length, a.blocks] {
             self.grow(n as u64);
         }
@@ -83,6 +79,6 @@ fn main() {
         }
         tally.grow_by(&out);
     }
-    let Tally { accepted, refused, lengths, blocks, sum, sums } = tally;
-    println!("{accepted} {refused} {lengths} {blocks} {sum} {sums}");
+    let Tally { accepted, refused, sum, sums } = tally;
+    println!("{accepted} {refused} {sum} {sums}");
 }

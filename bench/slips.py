@@ -1,16 +1,11 @@
-#!/usr/bin/env python3
-"""bench/slips.py COUNT FILE: write COUNT mixed slips, each after its length in 16 bits, and say what sizes they have.
-bench/slips.py test: write crates/check_bench/stdin and stdout, 21 such slips and the line that the model makes of them,
-of which each third is damaged.
+"""Mixed slips for the benchmarks.
 
 The same slips come at each run. Of 100 slips 10 are bare roots (36 bytes), 30 are a root with a salt and a title of
 five bytes (45 bytes), 40 are records of some pairs and pruned parts (to about 2 KB), 5 are chains of height 16, 12 are
-records of about 6 KB and 3 of about 30 KB. Each twentieth slip is then damaged: cut, lengthened or a bit turned.
+records of about 6 KB and 3 of about 30 KB. Each twentieth slip, or as many as are
+asked for, is then damaged: cut, lengthened or a bit turned.
 """
-import os, random, sys
-
-sys.path.insert(0, os.path.join(os.path.dirname(os.path.abspath(__file__)), "..", "tools"))
-from check_model import check
+import random
 
 LETTERS = [chr(c) for c in [*range(0x20, 0x7F), *range(0xC0, 0x100)]]
 KINDS = ["bare"] * 10 + ["title"] * 30 + ["record"] * 40 + ["chain"] * 5 + ["middle"] * 12 + ["large"] * 3
@@ -120,37 +115,3 @@ def slips(count, damage=20):
         slip = packed(rows)
         assert len(slip) <= 32768
         yield damaged(rng, slip) if n % damage == damage - 1 else slip
-
-
-def write(path, made):
-    with open(path, "wb") as f:
-        for slip in made:
-            f.write(len(slip).to_bytes(2, "big") + slip)
-
-
-def line(made):
-    """What the programs print of these slips, by the model."""
-    answers = [check(slip) for slip in made]
-    accepted = sum(a.number == 0 for a in answers)
-    xor = 0
-    for a in answers:
-        xor ^= int.from_bytes(a.label, "big")
-    return f"{accepted} {len(made) - accepted} {sum(a.blocks for a in answers)} {xor:064x}\n"
-
-
-def main():
-    if sys.argv[1:] == ["test"]:
-        made = list(slips(20, 3)) + [b""]
-        write("crates/check_bench/stdin", made)
-        with open("crates/check_bench/stdout", "w") as f:
-            f.write(line(made))
-        return
-    made = list(slips(int(sys.argv[1])))
-    write(sys.argv[2], made)
-    sizes = sorted(map(len, made))
-    print(f"{len(made)} slips, {sum(sizes) / 1e6:.1f} MB: smallest {sizes[0]} bytes, "
-          f"middle {sizes[len(sizes) // 2]}, largest {sizes[-1]}")
-
-
-if __name__ == "__main__":
-    main()

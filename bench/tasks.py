@@ -5,7 +5,7 @@ makes of them.
 """
 import hashlib, os, random, subprocess
 
-from slips import KINDS, bits, damaged, entries, internal, packed, pair, record
+from slips import KINDS, bits, damaged, entries, internal, packed, pair, record, slips
 
 CHECK, PRUNE, JOIN = range(3)
 ROOM = 65535
@@ -126,6 +126,7 @@ def main():
     rng = random.Random(2)
     with open(given, "wb") as f:
         f.writelines(t for t in mixed(rng, 200) if len(t) < 1200)
+        f.writelines(task(CHECK, slip, room=0) for slip in [*slips(20, 3), b""])
     rust = "target/bench/calls_rust"
     os.makedirs("target/bench", exist_ok=True)
     subprocess.run(["rustc", "--edition", "2021", "-O", "-o", rust, "bench/calls.rs"], check=True)

@@ -2,12 +2,12 @@
 use slips::answer::Answer;
 use slips::calls;
 
-const CHECK: usize = 0;
+const CHECK: u16 = 0;
 
-const PRUNE: usize = 1;
+const PRUNE: u16 = 1;
 
 // Any other number is a join.
-pub fn answered(call: usize, s: &[u8], u: &[u8], list: &[u16], out: &mut [u8]) -> Answer {
+pub fn answered(call: u16, s: &[u8], u: &[u8], list: &[u16], out: &mut [u8]) -> Answer {
     if call == CHECK {
         return calls::check(s);
     }

@@ -1,5 +1,5 @@
-// Runs the tasks on standard input, for bench/prune and bench/join to time, and prints one line that depends on every
-// answer and every output (src/tally.rt says of what).
+// Runs the tasks on standard input, for bench/check, bench/prune and bench/join to time, and prints one line that
+// depends on every answer and every output (src/tally.rt says of what).
 mod calls;
 mod tally;
 mod task;
@@ -10,35 +10,29 @@ use lines::parts;
 use tally::Tally;
 use task::Next;
 use task::Task;
-
-// The longest part or output that 16 bits announce.
-const ROOM: usize = 65535;
+ghost use Prim.Native.Nat.{_<_};
 
 // What an output holds before a task.
 const FILL: u8 = 165;
 
-// The most names that a part of this many bytes holds.
-const NAMES: usize = 32767;
-
 fn main() {
     let mut text = [0u8; page::BYTES];
     let at = tally::print(&mut text, run());
-    page::flush(&text, at);
+    page::close(&text, at, b"call_bench");
 }
 
 // A proved loop ends: this one where the input does, or after more turns than any run takes.
 fn run() -> Tally {
-    let mut first = [0u8; ROOM];
-    let mut second = [0u8; ROOM];
-    let mut names = [0u16; NAMES];
+    let mut given = [0u8; task::GIVEN];
+    let mut names = [0u16; task::NAMES];
+    let mut out = [0u8; task::ROOM];
     let mut tally = Tally::new();
     let mut turns = u64::MAX;
     while 0 < turns {
         let Next::Is(t) = task::announced() else {
             return tally;
         };
-        let mut out = [FILL; ROOM];
-        tally = done(t, &mut first, &mut second, &mut names, &mut out, tally);
+        tally = done(t, &mut given, &mut names, &mut out, tally);
         turns -= 1;
     }
     tally
@@ -47,33 +41,38 @@ fn run() -> Tally {
 // Reads a task's two parts, and does it.
 fn done(
     t: Task,
-    first: &mut [u8; ROOM],
-    second: &mut [u8; ROOM],
-    names: &mut [u16; NAMES],
-    out: &mut [u8; ROOM],
+    given: &mut [u8; task::GIVEN],
+    names: &mut [u16; task::NAMES],
+    out: &mut [u8; task::ROOM],
     tally: Tally,
 ) -> Tally {
-    let n = task::part(first, t.first);
-    let m = task::part(second, t.second);
-    let k = task::names(parts::bytes(second, 0, m), names);
-    summed(
-        t,
-        parts::bytes(first, 0, n),
-        parts::bytes(second, 0, m),
-        parts::cells(names, 0, k),
-        out,
-        tally,
-    )
+    let n = wide(t.first);
+    let m = n + wide(t.second);
+    task::read(given, m);
+    let k = task::names(parts::bytes(given, n, m), names);
+    summed(t, given, parts::cells(names, 0, k), out, tally)
 }
 
 // The tally with a task's answers and with what stands in its output behind the last of them.
-fn summed(t: Task, s: &[u8], u: &[u8], list: &[u16], out: &mut [u8], tally: Tally) -> Tally {
-    let room = parts::byte_room(out, t.room);
+fn summed(t: Task, given: &[u8], list: &[u16], out: &mut [u8], tally: Tally) -> Tally {
+    let n = wide(t.first);
+    let s = parts::bytes(given, 0, n);
+    let u = parts::bytes(given, n, n + wide(t.second));
+    let room = parts::byte_room(out, wide(t.room));
     let all = repeated(t, s, u, list, &mut out[..room], tally);
     all.with_bytes(parts::bytes(out, 0, room))
 }
 
+fn fill(out: &mut [u8]) {
+    let mut i = 0;
+    while i < out.len() {
+        out[i] = FILL;
+        i += 1;
+    }
+}
+
 fn repeated(t: Task, s: &[u8], u: &[u8], list: &[u16], out: &mut [u8], tally: Tally) -> Tally {
+    fill(out);
     let mut all = tally;
     let mut i = 0;
     while i < t.times {
@@ -81,4 +80,10 @@ fn repeated(t: Task, s: &[u8], u: &[u8], list: &[u16], out: &mut [u8], tally: Ta
         i += 1;
     }
     all
+}
+
+fn wide(n: u16) -> usize
+    ensures { λ r. ⌜ r < 65536 ⌝ }
+{
+    n as usize
 }

@@ -1,5 +1,5 @@
-// What the calls answered and wrote: how many were accepted and refused, the lengths and the blocks they told, and two
-// sums over every number and byte. The second sums the first as it grows, so that the order counts too.
+// What the calls answered and wrote: how many were accepted and refused, and two sums over every number and byte. The
+// second sums the first as it grows, so that the order counts too.
 use lines::page;
 use slips::answer::Answer;
 use std::num;
@@ -7,8 +7,6 @@ use std::num;
 pub struct Tally {
     pub accepted: u64,
     pub refused: u64,
-    pub lengths: u64,
-    pub blocks: u64,
     pub sum: u64,
     pub sums: u64,
 }
@@ -18,8 +16,6 @@ impl Tally {
         Tally {
             accepted: 0,
             refused: 0,
-            lengths: 0,
-            blocks: 0,
             sum: 0,
             sums: 0,
         }
@@ -28,29 +24,21 @@ impl Tally {
     // The same with one answer more.
     pub fn with(self, a: Answer) -> Self {
         let label = a.label;
-        self.with_bytes(&label).counted(a).grown_by(a)
+        let numbers = [a.number, a.place, a.second, a.side, a.length, a.blocks];
+        self.with_bytes(&label)
+            .with_numbers(numbers)
+            .counted(a.number)
     }
 
-    fn counted(self, a: Answer) -> Self {
-        let accepted = (a.number == 0) as u64;
-        let refused = (a.number != 0) as u64;
+    fn counted(self, number: usize) -> Self {
+        let accepted = (number == 0) as u64;
+        let refused = (number != 0) as u64;
         Tally {
             accepted: num::wrapping_add_u64(self.accepted, accepted),
             refused: num::wrapping_add_u64(self.refused, refused),
-            lengths: num::wrapping_add_u64(self.lengths, a.length as u64),
-            blocks: num::wrapping_add_u64(self.blocks, a.blocks as u64),
             sum: self.sum,
             sums: self.sums,
         }
-    }
-
-    fn grown_by(self, a: Answer) -> Self {
-        self.grown(a.number as u64)
-            .grown(a.place as u64)
-            .grown(a.second as u64)
-            .grown(a.side as u64)
-            .grown(a.length as u64)
-            .grown(a.blocks as u64)
     }
 
     // The same with the sums grown by some bytes.
@@ -64,13 +52,21 @@ impl Tally {
         all
     }
 
+    fn with_numbers(self, numbers: [usize; 6]) -> Self {
+        let mut all = self;
+        let mut i = 0;
+        while i < 6 {
+            all = all.grown(numbers[i] as u64);
+            i += 1;
+        }
+        all
+    }
+
     fn grown(self, n: u64) -> Self {
         let sum = num::wrapping_add_u64(self.sum, n);
         Tally {
             accepted: self.accepted,
             refused: self.refused,
-            lengths: self.lengths,
-            blocks: self.blocks,
             sum,
             sums: num::wrapping_add_u64(self.sums, sum),
         }
@@ -84,8 +80,6 @@ fn wide(b: u8) -> u64 {
 pub fn print(text: &mut [u8; page::BYTES], t: Tally) -> usize {
     let mut at = number(text, 0, t.accepted, b' ');
     at = number(text, at, t.refused, b' ');
-    at = number(text, at, t.lengths, b' ');
-    at = number(text, at, t.blocks, b' ');
     at = number(text, at, t.sum, b' ');
     number(text, at, t.sums, b'\n')
 }

@@ -2,16 +2,23 @@
 // a pruning list, two bytes a name, or a second slip.
 use libc::STDIN_FILENO;
 use lines::parts;
-ghost use Prim.Native.Nat.{_≤_};
+ghost use Prim.Native.Nat.{_≤_, _<_};
+
+// The longest part or output that 16 bits announce, both parts, and the most names that a part holds.
+pub const ROOM: usize = 65535;
+
+pub const GIVEN: usize = 2 * ROOM;
+
+pub const NAMES: usize = ROOM / 2;
 
 const HEAD: usize = 10;
 
 pub struct Task {
-    pub call: usize,
-    pub times: usize,
-    pub first: usize,
-    pub second: usize,
-    pub room: usize,
+    pub call: u16,
+    pub times: u16,
+    pub first: u16,
+    pub second: u16,
+    pub room: u16,
 }
 
 // The next task; none at the end of the input.
@@ -26,41 +33,45 @@ pub fn announced() -> Next {
         return Next::End;
     }
     Next::Is(Task {
-        call: both(head[0], head[1]),
-        times: both(head[2], head[3]),
-        first: both(head[4], head[5]),
-        second: both(head[6], head[7]),
-        room: both(head[8], head[9]),
+        call: number(&head, 0),
+        times: number(&head, 1),
+        first: number(&head, 2),
+        second: number(&head, 3),
+        room: number(&head, 4),
     })
 }
 
-// Reads a part of n bytes to the front of an area, and answers how many came.
-pub fn part(area: &mut [u8], n: usize) -> usize {
+fn number(head: &[u8; HEAD], k: usize) -> u16
+    requires { ⌜ k < 5 ⌝ }
+{
+    both(head[2 * k], head[2 * k + 1])
+}
+
+// Reads n bytes to the front of an area.
+pub fn read(area: &mut [u8], n: usize) {
     let room = parts::byte_room(area, n);
-    io::read_full(STDIN_FILENO, &mut area[..room])
+    io::read_full(STDIN_FILENO, &mut area[..room]);
 }
 
 // Puts the names that a part holds into cells, and answers how many there are.
-pub fn names(part: &[u8], cells: &mut [u16]) -> usize {
+pub fn names(part: &[u8], cells: &mut [u16; NAMES]) -> usize {
     let mut i = 0;
     while i < part.len() / 2 {
-        if cells.len() <= i {
+        if NAMES <= i {
             return i;
         }
-        cells[i] = both(part[2 * i], part[2 * i + 1]) as u16;
+        cells[i] = both(part[2 * i], part[2 * i + 1]);
         i += 1;
     }
     i
 }
 
-fn both(high: u8, low: u8) -> usize
-    ensures { λ r. ⌜ r ≤ 65535 ⌝ }
-{
+fn both(high: u8, low: u8) -> u16 {
     wide(high) * 256 + wide(low)
 }
 
-fn wide(b: u8) -> usize
+fn wide(b: u8) -> u16
     ensures { λ r. ⌜ r ≤ 255 ⌝ }
 {
-    b as usize
+    b as u16
 }

@@ -1,45 +1,91 @@
 // A page of text, for standard output as a rule. `at` bytes stand on it; each function puts its text behind them and
-// answers how many stand there then. A full page is written out and begun anew.
+// answers how many stand there then. A full page is written out and begun anew. Where that fails the answer is BROKEN,
+// which every function hands on: behind a failed write nothing more is written.
+use crate::parts;
 use libc::STDERR_FILENO;
 use libc::STDOUT_FILENO;
-ghost use Prim.Native.Nat.{_<_};
+ghost use Prim.Native.Nat.{_+_, _≤_, _<_};
+ghost use lib.ListN.{length};
 
-pub const BYTES: usize = 65536;
+// More than `show` prints of any slip.
+pub const BYTES: usize = 98304;
+
+pub const BROKEN: usize = usize::MAX;
 
 pub fn byte(page: &mut [u8; BYTES], at: usize, b: u8) -> usize {
-    if at < BYTES {
-        page[at] = b;
-        return at + 1;
+    let to = room(page, at, 1);
+    if BYTES <= to {
+        return BROKEN;
     }
-    io::write_all(STDOUT_FILENO, page);
-    page[0] = b;
-    1
-}
-
-// Writes out what stands on the page.
-pub fn flush(page: &[u8; BYTES], at: usize) {
-    write_front(STDOUT_FILENO, page, at);
-}
-
-// Writes it to standard error.
-pub fn complain(page: &[u8; BYTES], at: usize) {
-    write_front(STDERR_FILENO, page, at);
-}
-
-fn write_front(fd: i32, page: &[u8], at: usize) {
-    if at <= page.len() {
-        io::write_all(fd, &page[..at]);
-    }
+    page[to] = b;
+    to + 1
 }
 
 pub fn word(page: &mut [u8; BYTES], at: usize, text: &[u8]) -> usize {
-    let mut n = at;
-    let mut i = 0;
-    while i < text.len() {
-        n = byte(page, n, text[i]);
-        i += 1;
+    let to = room(page, at, text.len());
+    if BYTES < to {
+        return BROKEN;
     }
-    n
+    if BYTES - to < text.len() {
+        return sent(text);
+    }
+    put(page, to, text)
+}
+
+fn put(page: &mut [u8], at: usize, text: &[u8]) -> usize
+    requires { ⌜ at + length (now text) ≤ length (now page) ⌝ }
+{
+    bytes::copy(text, &mut page[at..]);
+    at + text.len()
+}
+
+// Where n bytes more are to stand: behind the others or, where there is too little room, at the front of the next page.
+pub fn room(page: &[u8; BYTES], at: usize, n: usize) -> usize {
+    if at <= BYTES {
+        if n <= BYTES - at {
+            return at;
+        }
+    }
+    flush(page, at)
+}
+
+// Writes out what stands on the page.
+pub fn flush(page: &[u8; BYTES], at: usize) -> usize {
+    if BYTES < at {
+        return BROKEN;
+    }
+    sent(parts::bytes(page, 0, at))
+}
+
+// Writes a text out; the page is empty then.
+fn sent(text: &[u8]) -> usize {
+    if io::write_all(STDOUT_FILENO, text) {
+        0
+    } else {
+        BROKEN
+    }
+}
+
+// Writes out the last page of a program. Where not all of its text could be written, that is said.
+pub fn close(page: &[u8; BYTES], at: usize, program: &[u8]) {
+    if flush(page, at) == BROKEN {
+        say(program, b"cannot write");
+    }
+}
+
+// A line on standard error: who says it, and what.
+pub fn say(program: &[u8], words: &[u8]) {
+    let mut text = [0u8; BYTES];
+    let mut at = word(&mut text, 0, program);
+    at = word(&mut text, at, b": ");
+    at = word(&mut text, at, words);
+    at = byte(&mut text, at, b'\n');
+    complain(&text, at);
+}
+
+// Writes what stands on the page to standard error.
+pub fn complain(page: &[u8; BYTES], at: usize) {
+    io::write_all(STDERR_FILENO, parts::bytes(page, 0, at));
 }
 
 // A name as it was given, but for `?` in the place of each control byte: it stays on its line.
@@ -87,22 +133,26 @@ pub fn list(page: &mut [u8; BYTES], at: usize, cells: &[u16]) -> usize {
     if cells.len() == 0 {
         return byte(page, at, b'-');
     }
-    let mut n = decimal(page, at, wide(cells[0]));
-    let mut i = 1;
+    let mut n = at;
+    let mut i = 0;
     while i < cells.len() {
-        n = byte(page, n, b',');
-        n = decimal(page, n, wide(cells[i]));
+        n = comma(page, n, i);
+        n = decimal(page, n, parts::cell(cells, i));
         i += 1;
     }
     n
+}
+
+// A comma before each but the first.
+fn comma(page: &mut [u8; BYTES], at: usize, i: usize) -> usize {
+    if i == 0 {
+        return at;
+    }
+    byte(page, at, b',')
 }
 
 fn glyph(digit: u8) -> u8
     requires { ⌜ digit < 16 ⌝ }
 {
     if digit < 10 { 48 + digit } else { 87 + digit }
-}
-
-fn wide(cell: u16) -> usize {
-    cell as usize
 }

@@ -3,8 +3,9 @@ use lines::page;
 use lines::parts;
 use slips::answer::Answer;
 use slips::calls;
+use slips::header;
 use tables::limits::Slip;
-ghost use Prim.Native.Nat.{_≤_, _<_};
+use tables::refusals::Refusal;
 
 pub fn slip(text: &mut [u8; page::BYTES], from: usize, slip: &[u8]) -> usize {
     let mut types = [0u16; Slip::MAX_NODES];
@@ -12,14 +13,15 @@ pub fn slip(text: &mut [u8; page::BYTES], from: usize, slip: &[u8]) -> usize {
     let mut lengths = [0u16; Slip::MAX_NODES];
     let mut values = [0u8; Slip::MAX_BYTES];
     let a = calls::unpack(slip, &mut types, &mut counts, &mut lengths, &mut values);
-    if a.number != 0 {
+    if a.number != Refusal::ACCEPTED {
         return refused(text, from, a);
     }
-    let nodes = node_count(slip);
+    let h = header::header_of(slip);
+    let nodes = h.count;
     let mut at = first(text, from, nodes, a.blocks);
     let label = a.label;
     at = root(text, at, label);
-    pairs(text, at, nodes, &types, &lengths, &values)
+    pairs(text, at, parts::cells(&types, 0, nodes), &lengths, &values)
 }
 
 fn refused(text: &mut [u8; page::BYTES], from: usize, a: Answer) -> usize {
@@ -40,7 +42,7 @@ fn first(text: &mut [u8; page::BYTES], from: usize, nodes: usize, blocks: usize)
     page::byte(text, at, b'\n')
 }
 
-fn root(text: &mut [u8; page::BYTES], from: usize, label: [u8; 32]) -> usize {
+fn root(text: &mut [u8; page::BYTES], from: usize, label: [u8; Slip::LABEL_BYTES]) -> usize {
     let mut at = page::word(text, from, b"root ");
     at = page::hex(text, at, &label);
     page::byte(text, at, b'\n')
@@ -50,19 +52,16 @@ fn root(text: &mut [u8; page::BYTES], from: usize, label: [u8; 32]) -> usize {
 fn pairs(
     text: &mut [u8; page::BYTES],
     from: usize,
-    nodes: usize,
-    types: &[u16; Slip::MAX_NODES],
-    lengths: &[u16; Slip::MAX_NODES],
+    types: &[u16],
+    lengths: &[u16],
     values: &[u8],
-) -> usize
-    requires { ⌜ nodes ≤ 1023 ⌝ }
-{
+) -> usize {
     let mut at = from;
     let mut start = 0;
     let mut row = 0;
-    while row < nodes {
+    while row < types.len() {
         let kind = wide(types[row]);
-        let end = start + wide(lengths[row]);
+        let end = parts::end(values, start, parts::cell(lengths, row));
         if Slip::FIRST_TEXT <= kind {
             at = pair(text, at, kind, parts::bytes(values, start, end));
         }
@@ -82,24 +81,6 @@ fn pair(text: &mut [u8; page::BYTES], from: usize, kind: usize, value: &[u8]) ->
     page::byte(text, at, b'\n')
 }
 
-// The 10 bits behind the 6 of the edition.
-fn node_count(slip: &[u8]) -> usize
-    ensures { λ r. ⌜ r ≤ 1023 ⌝ }
-{
-    if slip.len() < 2 {
-        return 0;
-    }
-    octet(slip[0]) % 4 * 256 + octet(slip[1])
-}
-
-fn octet(b: u8) -> usize
-    ensures { λ r. ⌜ r < 256 ⌝ }
-{
-    b as usize
-}
-
-fn wide(cell: u16) -> usize
-    ensures { λ r. ⌜ r < 65536 ⌝ }
-{
+fn wide(cell: u16) -> usize {
     cell as usize
 }

@@ -4,10 +4,10 @@ use Rattle.call_bench.proofs.run.Statement.{statement}
 use Rattle.call_bench.proofs.run.Tie as tie
 
 abbrev Inv-loop : tie.InvT-loop
-Inv-loop first₀ second₀ names₀ tally₀ turns₀ first second names tally turns = Unit {0}
+Inv-loop given₀ names₀ out₀ tally₀ turns₀ given names out tally turns = Unit {0}
 
 abbrev μ-loop : tie.MeasureT-loop
-μ-loop first₀ second₀ names₀ tally₀ turns₀ first second names tally turns = turns
+μ-loop given₀ names₀ out₀ tally₀ turns₀ given names out tally turns = turns
 
 pub run-spec : {M : Type 1} → statement M
 run-spec =

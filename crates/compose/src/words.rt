@@ -1,0 +1,89 @@
+// A refusal in words, a line on standard error.
+use lines::page;
+use lines::parts;
+use titles::Composed;
+use titles::Refusal;
+use titles::Title;
+use titles::utf8;
+ghost use Prim.Native.Nat.{_<_};
+
+pub fn complain(line: usize, title: &[u8], r: Composed) {
+    let mut text = [0u8; page::BYTES];
+    let mut to = begun(&mut text, line);
+    to = placed(&mut text, to, r);
+    to = reason(&mut text, to, title, r);
+    to = page::byte(&mut text, to, b'\n');
+    page::complain(&text, to);
+}
+
+fn begun(text: &mut [u8; page::BYTES], line: usize) -> usize {
+    let mut to = page::word(text, 0, b"line ");
+    to = page::decimal(text, to, line);
+    page::word(text, to, b": refused ")
+}
+
+fn placed(text: &mut [u8; page::BYTES], at: usize, r: Composed) -> usize {
+    let mut to = page::decimal(text, at, r.number as usize);
+    to = page::word(text, to, b" at ");
+    to = page::decimal(text, to, r.place);
+    page::word(text, to, b": ")
+}
+
+fn reason(text: &mut [u8; page::BYTES], at: usize, title: &[u8], r: Composed) -> usize {
+    if r.number == Refusal::TITLE_LONG {
+        return long(text, at);
+    }
+    if r.number == Refusal::NOT_UTF8 {
+        return ill(text, at, title, r.place);
+    }
+    let to = code(text, at, character(title, r.place));
+    if r.number == Refusal::LOOSE_MARK {
+        return page::word(text, to, b" is a mark without a letter that takes it");
+    }
+    page::word(text, to, b" is outside the repertoire")
+}
+
+fn long(text: &mut [u8; page::BYTES], at: usize) -> usize {
+    let mut to = page::word(text, at, b"longer than ");
+    to = page::decimal(text, to, Title::MAX_BYTES);
+    page::word(text, to, b" bytes")
+}
+
+fn ill(text: &mut [u8; page::BYTES], at: usize, title: &[u8], place: usize) -> usize {
+    let to = page::word(text, at, b"not UTF-8: byte ");
+    page::hex(
+        text,
+        to,
+        parts::bytes(title, place, parts::end(title, place, 1)),
+    )
+}
+
+fn character(title: &[u8], place: usize) -> u32 {
+    if title.len() < place {
+        return utf8::ILL;
+    }
+    utf8::first(title, place)
+}
+
+// A character's number: `U+` and four hex digits, or as many as it takes.
+fn code(text: &mut [u8; page::BYTES], at: usize, c: u32) -> usize {
+    let mut to = page::word(text, at, b"U+");
+    let mut weight: u32 = 1048576;
+    while 0 < weight {
+        if weight <= 4096 || weight <= c {
+            to = page::byte(text, to, glyph(c / weight % 16));
+        }
+        weight /= 16;
+    }
+    to
+}
+
+fn glyph(digit: u32) -> u8
+    requires { ⌜ digit < 16 ⌝ }
+{
+    if digit < 10 {
+        48 + digit as u8
+    } else {
+        55 + digit as u8
+    }
+}
