@@ -1,10 +1,9 @@
 // desk check: a line a file.
-use crate::files;
-use crate::messages;
-use crate::refusals;
+use commands::files;
+use commands::messages;
+use commands::refusals;
 use lines::page;
 use lines::reading::Got;
-use slips::answer::Answer;
 use slips::calls;
 use tables::refusals::Refusal;
 ghost use Prim.Native.Nat.{_≤_};
@@ -62,32 +61,17 @@ fn file(text: &mut [u8; page::BYTES], from: usize, name: &[u8]) -> Line
         };
     };
     let a = calls::check(files::front(&slip, n));
+    let label = a.label;
     let to = page::name(text, from, name);
     if a.number == Refusal::ACCEPTED {
         Line {
-            to: accepted(text, to, a),
+            to: refusals::accepted(text, to, a.length, a.blocks, &label),
             refused: 0,
         }
     } else {
         Line {
-            to: refused(text, to, a.number, a.place),
+            to: refusals::refused(text, to, a.number, a.place),
             refused: 1,
         }
     }
-}
-
-fn accepted(text: &mut [u8; page::BYTES], from: usize, a: Answer) -> usize {
-    let mut to = messages::number(text, from, b" accepted ", a.length);
-    to = messages::number(text, to, b" ", a.blocks);
-    to = page::byte(text, to, b' ');
-    let label = a.label;
-    to = page::hex(text, to, &label);
-    page::byte(text, to, b'\n')
-}
-
-fn refused(text: &mut [u8; page::BYTES], from: usize, number: usize, place: usize) -> usize {
-    let mut to = messages::number(text, from, b" refused ", number);
-    to = messages::number(text, to, b" ", place);
-    to = refusals::told(text, to, number, place, 0);
-    page::byte(text, to, b'\n')
 }

@@ -1,7 +1,7 @@
 // desk find: the value of a type in the first of the slips that has one.
-use crate::files;
-use crate::making;
-use crate::messages;
+use commands::arguments;
+use commands::files;
+use commands::messages;
 use lines::fields::Whole;
 use lines::page;
 use lines::parts;
@@ -17,7 +17,7 @@ pub fn find(count: usize) {
         messages::usage(b"find", b" TYPE FILE..");
         return;
     }
-    let kind = making::number(2);
+    let kind = arguments::number(2);
     let Whole::Is(value) = kind else {
         return;
     };

@@ -1,9 +1,9 @@
 // desk unpack, desk pack and desk tree: what is made of one file.
-use crate::command::Command;
-use crate::files;
 use crate::making;
-use crate::messages;
 use crate::tree;
+use commands::command::Command;
+use commands::files;
+use commands::messages;
 use lines::fields;
 use lines::page;
 use lines::parts;

@@ -1,15 +1,13 @@
 // Slips on the command line: a word, and behind it the files and numbers that it asks for.
 mod checking;
-mod command;
-mod files;
 mod finding;
 mod forms;
 mod making;
-mod messages;
-mod refusals;
 mod tree;
 
-use command::Command;
+use commands::command;
+use commands::command::Command;
+use commands::messages;
 use requests::session;
 
 fn main() {

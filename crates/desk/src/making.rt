@@ -1,24 +1,14 @@
 // desk prune and desk join: a slip on standard output, or nothing there and the refusal on standard error.
-use crate::files;
-use crate::messages;
-use lines::fields;
-use lines::fields::Whole;
+use commands::arguments;
+use commands::arguments::Listed;
+use commands::files;
+use commands::messages;
 use lines::parts;
 use lines::reading::Got;
 use slips::answer::Answer;
 use slips::header;
 use tables::limits::Slip;
 use tables::refusals::Refusal;
-
-// Where the entries begin among the arguments, and one more of them than a slip has nodes.
-const FIRST: usize = 3;
-
-const ENTRIES: usize = Slip::MAX_NODES + 1;
-
-enum Listed {
-    All(usize),
-    Not,
-}
 
 // Writes out a slip that was made of a file, or says how it was refused.
 pub fn put(name: &[u8], a: Answer, out: &[u8; Slip::MAX_BYTES]) {
@@ -34,8 +24,8 @@ pub fn prune(count: usize) {
         messages::usage(b"prune", b" FILE ENTRY..");
         return;
     }
-    let mut list = [0u16; ENTRIES];
-    let listed = entries(count, &mut list);
+    let mut list = [0u16; arguments::ENTRIES];
+    let listed = arguments::entries(count, &mut list);
     let Listed::All(k) = listed else {
         return;
     };
@@ -44,7 +34,7 @@ pub fn prune(count: usize) {
     prune_file(&space[..n], &list, k);
 }
 
-fn prune_file(name: &[u8], list: &[u16; ENTRIES], k: usize) {
+fn prune_file(name: &[u8], list: &[u16; arguments::ENTRIES], k: usize) {
     let mut space = [0u8; files::ROOM];
     let got = files::read(name, &mut space);
     let Got::Bytes(n) = got else {
@@ -120,39 +110,4 @@ fn joined(first: &[u8], second: &[u8], a: Answer, out: &[u8; Slip::MAX_BYTES]) {
     } else {
         messages::both_refused(first, second, a.number, a.place, a.second);
     }
-}
-
-// The entries among the arguments.
-fn entries(count: usize, list: &mut [u16; ENTRIES]) -> Listed {
-    let mut i = FIRST;
-    while i < count {
-        let k = i - FIRST;
-        if ENTRIES <= k {
-            messages::too_many();
-            return Listed::Not;
-        }
-        let entry = number(i);
-        let Whole::Is(value) = entry else {
-            return Listed::Not;
-        };
-        list[k] = value;
-        i += 1;
-    }
-    Listed::All(i - FIRST)
-}
-
-// The number that an argument is. Where it is none, that is said.
-pub fn number(i: usize) -> Whole {
-    let mut space = io::buffer();
-    let n = os::arg(i, &mut space);
-    said(&space[..n])
-}
-
-fn said(word: &[u8]) -> Whole {
-    let whole = fields::whole_of(word);
-    let Whole::Is(value) = whole else {
-        messages::no_number(word);
-        return Whole::Not;
-    };
-    Whole::Is(value)
 }

@@ -1,8 +1,31 @@
-// The words of document 01's refusal table, and what stands at the place of a refusal.
+// What is told of a check: the words of document 01's refusal table, and what stands at the place of a refusal.
 use crate::messages;
 use lines::page;
 use table_text::words;
+use tables::limits::Slip;
 use tables::refusals::Refusal;
+
+// The rest of a file's line in `desk check`.
+pub fn accepted(
+    text: &mut [u8; page::BYTES],
+    from: usize,
+    length: usize,
+    blocks: usize,
+    label: &[u8; Slip::LABEL_BYTES],
+) -> usize {
+    let mut to = messages::number(text, from, b" accepted ", length);
+    to = messages::number(text, to, b" ", blocks);
+    to = page::byte(text, to, b' ');
+    to = page::hex(text, to, label);
+    page::byte(text, to, b'\n')
+}
+
+pub fn refused(text: &mut [u8; page::BYTES], from: usize, number: usize, place: usize) -> usize {
+    let mut to = messages::number(text, from, b" refused ", number);
+    to = messages::number(text, to, b" ", place);
+    to = told(text, to, number, place, 0);
+    page::byte(text, to, b'\n')
+}
 
 // What the place is where the number tells, and the words, each behind a colon.
 pub fn told(

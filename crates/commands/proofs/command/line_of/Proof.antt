@@ -1,9 +1,9 @@
--- `desk::command::line_of` is safe and ends: each turn passes a line at least.
+-- `commands::command::line_of` is safe and ends: each turn passes a line at least.
 use Prim.Native.Nat.{_≤_, _-_}
 use lib.ListN.{length}
 use borrow.Author.Needs.{needs}
-use Rattle.desk.proofs.command.line_of.Statement.{statement}
-use Rattle.desk.proofs.command.line_of.Tie as tie
+use Rattle.commands.proofs.command.line_of.Statement.{statement}
+use Rattle.commands.proofs.command.line_of.Tie as tie
 
 abbrev Inv-loop : tie.InvT-loop
 Inv-loop lines word number₀ at₀ number at = number ≤ at

@@ -1,8 +1,8 @@
--- `desk::making::entries` is safe and ends.
+-- `commands::arguments::entries` is safe and ends.
 use Prim.Native.Nat.{_≤_, _-_}
 use borrow.Author.Needs.{needs}
-use Rattle.desk.proofs.making.entries.Statement.{statement}
-use Rattle.desk.proofs.making.entries.Tie as tie
+use Rattle.commands.proofs.arguments.entries.Statement.{statement}
+use Rattle.commands.proofs.arguments.entries.Tie as tie
 
 abbrev Inv-loop : tie.InvT-loop
 Inv-loop count list₀ i₀ list i = 3 ≤ i
