@@ -14,6 +14,9 @@ use lines::parts;
 
 // Answers a line behind the `at` bytes of the text.
 pub fn answered(line: &[u8], text: &mut [u8; page::BYTES], at: usize) -> usize {
+    if fields::LINE < line.len() {
+        return answer::bad(text, at);
+    }
     let mut cells = [0u16; fields::AREA];
     let mut bytes = [0u8; fields::AREA];
     let mut ends = [0usize; fields::ENDS];
@@ -46,7 +49,7 @@ fn asked(
     }
 }
 
-// Whether a line is no longer than lines may be and has the fields of a shape.
+// Whether a line has the fields of a shape, of which there are no more than a line may have.
 fn decoded(
     line: &[u8],
     shape: &[u8],
@@ -54,7 +57,7 @@ fn decoded(
     bytes: &mut [u8; fields::AREA],
     ends: &mut [usize; fields::ENDS],
 ) -> bool {
-    if fields::LINE < line.len() || fields::ENDS <= shape.len() {
+    if fields::ENDS <= shape.len() {
         return false;
     }
     fields::read(line, shape, cells, bytes, ends)
