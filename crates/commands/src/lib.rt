@@ -1,4 +1,6 @@
-// What desk's commands share: a file read, a slip made of files, and what is said when neither can be.
-pub mod making;
+// What desk's commands share: which command a word names, the numbers and files that the arguments give, and what is said.
+pub mod arguments;
+pub mod command;
+pub mod files;
 pub mod messages;
-pub mod reading;
+pub mod refusals;

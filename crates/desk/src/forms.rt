@@ -1,50 +1,56 @@
-// desk unpack, desk pack and desk tree: a slip's table and its tree, as text.
-use commands::making;
+// desk unpack, desk pack and desk tree: what is made of one file.
+use crate::making;
+use crate::tree;
+use commands::command::Command;
+use commands::files;
 use commands::messages;
-use commands::reading;
-use commands::reading::Got;
-use drawn::slip;
+use lines::fields;
 use lines::page;
 use lines::parts;
+use lines::reading::Got;
 use slips::calls;
 use slips::header;
+use table_text::reading;
+use table_text::reading::Table;
+use table_text::writing;
 use tables::limits::Slip;
 use tables::refusals::Refusal;
-use texts::reading as rows;
-use texts::writing;
 
-const TEXT: usize = rows::BYTES + 1;
-
-pub fn unpack(count: usize) {
+pub fn of_file(command: usize, word: &[u8], count: usize) {
     if count != 3 {
-        messages::usage(b"unpack FILE");
+        messages::usage(word, b" FILE");
         return;
     }
     let mut space = io::buffer();
     let n = os::arg(2, &mut space);
-    let mut bytes = [0u8; reading::ROOM];
-    unpack_file(&space[..n], &mut bytes);
+    formed(command, &space[..n]);
 }
 
-fn unpack_file(name: &[u8], bytes: &mut [u8; reading::ROOM]) {
-    let got = reading::file(name, bytes);
+fn formed(command: usize, name: &[u8]) {
+    let mut space = [0u8; files::ROOM];
+    let got = files::read(name, &mut space);
     let Got::Bytes(n) = got else {
         return;
     };
-    unpacked(name, parts::bytes(bytes, 0, n));
+    let bytes = files::front(&space, n);
+    match command {
+        Command::UNPACK => unpack(name, bytes),
+        Command::PACK => pack(name, bytes),
+        _ => tree(name, bytes),
+    }
 }
 
-fn unpacked(name: &[u8], bytes: &[u8]) {
+fn unpack(name: &[u8], slip: &[u8]) {
     let mut types = [0u16; Slip::MAX_NODES];
     let mut counts = [0u16; Slip::MAX_NODES];
     let mut lengths = [0u16; Slip::MAX_NODES];
     let mut values = [0u8; Slip::MAX_BYTES];
-    let a = calls::unpack(bytes, &mut types, &mut counts, &mut lengths, &mut values);
+    let a = calls::unpack(slip, &mut types, &mut counts, &mut lengths, &mut values);
     if a.number != Refusal::ACCEPTED {
-        messages::refused(name, a);
+        messages::refused(name, a.number, a.place);
         return;
     }
-    let h = header::header_of(bytes);
+    let h = header::header_of(slip);
     printed(h.count, &types, &counts, &lengths, &values);
 }
 
@@ -58,89 +64,51 @@ fn printed(
     let mut text = [0u8; page::BYTES];
     let to = writing::write(
         &mut text,
-        0,
         parts::cells(types, 0, n),
         counts,
         lengths,
         values,
     );
-    page::flush(&text, to);
+    page::close(&text, to, b"desk");
 }
 
-pub fn pack(count: usize) {
-    if count != 3 {
-        messages::usage(b"pack FILE");
-        return;
-    }
-    let mut space = io::buffer();
-    let n = os::arg(2, &mut space);
-    let mut text = [0u8; TEXT];
-    pack_file(&space[..n], &mut text);
-}
-
-fn pack_file(name: &[u8], text: &mut [u8; TEXT]) {
-    let got = reading::file(name, text);
-    let Got::Bytes(n) = got else {
-        return;
-    };
-    if rows::BYTES < n {
+fn pack(name: &[u8], text: &[u8]) {
+    if reading::BYTES < text.len() {
         messages::too_long(name);
         return;
     }
-    packed(name, parts::bytes(text, 0, n));
-}
-
-fn packed(name: &[u8], text: &[u8]) {
-    let mut types = [0u16; rows::ROWS];
-    let mut counts = [0u16; rows::ROWS];
-    let mut lengths = [0u16; rows::ROWS];
-    let mut values = [0u8; rows::VALUES];
-    let r = rows::read(text, &mut types, &mut counts, &mut lengths, &mut values);
-    if 0 < r.bad {
-        messages::no_row(name, r.bad);
-        return;
+    let mut cells = [0u16; reading::CELLS];
+    let mut values = [0u8; fields::AREA];
+    match reading::read(text, &mut cells, &mut values) {
+        Table::Rows { rows, used } => packed(name, rows, used, &cells, &values),
+        Table::Not { line, why } => messages::no_row(name, line, why),
     }
-    made(name, r.rows, r.used, &types, &counts, &lengths, &values);
 }
 
-fn made(
+fn packed(
     name: &[u8],
-    n: usize,
+    rows: usize,
     used: usize,
-    types: &[u16; rows::ROWS],
-    counts: &[u16; rows::ROWS],
-    lengths: &[u16; rows::ROWS],
-    values: &[u8; rows::VALUES],
+    cells: &[u16; reading::CELLS],
+    values: &[u8; fields::AREA],
 ) {
     let mut out = [0u8; Slip::MAX_BYTES];
+    let types = reading::column(cells, 0, rows);
+    let counts = reading::column(cells, 1, rows);
+    let lengths = reading::column(cells, 2, rows);
     let a = calls::pack(
-        parts::cells(types, 0, n),
-        parts::cells(counts, 0, n),
-        parts::cells(lengths, 0, n),
+        types,
+        counts,
+        lengths,
         parts::bytes(values, 0, used),
         &mut out,
     );
     making::put(name, a, &out);
 }
 
-pub fn tree(count: usize) {
-    if count != 3 {
-        messages::usage(b"tree FILE");
-        return;
-    }
-    let mut space = io::buffer();
-    let n = os::arg(2, &mut space);
-    let mut bytes = [0u8; reading::ROOM];
-    tree_file(&space[..n], &mut bytes);
-}
-
-fn tree_file(name: &[u8], bytes: &mut [u8; reading::ROOM]) {
-    let got = reading::file(name, bytes);
-    let Got::Bytes(n) = got else {
-        return;
-    };
-    let a = slip::draw(parts::bytes(bytes, 0, n));
+fn tree(name: &[u8], slip: &[u8]) {
+    let a = tree::draw(slip);
     if a.number != Refusal::ACCEPTED {
-        messages::refused(name, a);
+        messages::refused(name, a.number, a.place);
     }
 }

@@ -2,14 +2,18 @@
 mod checking;
 mod finding;
 mod forms;
+mod making;
+mod tree;
 
-use commands::making;
+use commands::command;
+use commands::command::Command;
 use commands::messages;
+use requests::session;
 
 fn main() {
     let count = os::arg_count();
     if count < 2 {
-        messages::help();
+        messages::usage(b"COMMAND ..", b"; desk help lists the commands");
         return;
     }
     let mut space = io::buffer();
@@ -19,49 +23,24 @@ fn main() {
 
 // Runs the command that a word names.
 fn run(word: &[u8], count: usize) {
-    if check::same(word, b"check") {
-        checking::check(count);
-        return;
+    let c = command::named(word);
+    match c {
+        Command::CHECK => checking::check(count),
+        Command::TREE..=Command::PACK => forms::of_file(c, word, count),
+        Command::PRUNE => making::prune(count),
+        Command::JOIN => making::join(count),
+        Command::FIND => finding::find(count),
+        Command::CALLS => calls(count),
+        Command::VERSION => messages::version(),
+        Command::HELP..=Command::LAST_HELP => messages::help(),
+        _ => messages::no_command(word),
     }
-    if check::same(word, b"unpack") {
-        forms::unpack(count);
-        return;
-    }
-    if check::same(word, b"pack") {
-        forms::pack(count);
-        return;
-    }
-    if check::same(word, b"tree") {
-        forms::tree(count);
-        return;
-    }
-    if check::same(word, b"prune") {
-        making::prune(count);
-        return;
-    }
-    if check::same(word, b"join") {
-        making::join(count);
-        return;
-    }
-    run_other(word, count);
-}
-
-fn run_other(word: &[u8], count: usize) {
-    if check::same(word, b"find") {
-        finding::find(count);
-        return;
-    }
-    if check::same(word, b"calls") {
-        calls(count);
-        return;
-    }
-    messages::no_command(word);
 }
 
 fn calls(count: usize) {
     if count != 2 {
-        messages::usage(b"calls");
+        messages::usage(b"calls", b"");
         return;
     }
-    sessions::run();
+    session::run();
 }

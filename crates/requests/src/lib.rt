@@ -2,7 +2,10 @@
 mod answer;
 mod composing;
 mod finding;
+mod form;
 mod forms;
 mod making;
-pub mod request;
+mod request;
 mod room;
+pub mod session;
+mod showing;

@@ -1,0 +1,22 @@
+// What the program `show` prints.
+use lines::fields;
+use lines::page;
+use lines::parts;
+
+// show SLIP: the answer is the text, as bytes
+pub fn show(
+    bytes: &[u8; fields::AREA],
+    ends: &[usize; fields::ENDS],
+    text: &mut [u8; page::BYTES],
+    at: usize,
+) -> usize {
+    let mut shown = [0u8; page::BYTES];
+    let n = shown::slip(&mut shown, 0, fields::text(bytes, ends, 0));
+    let to = hex(text, at, &shown, n);
+    page::byte(text, to, b'\n')
+}
+
+// The first n bytes of a page.
+fn hex(text: &mut [u8; page::BYTES], at: usize, shown: &[u8; page::BYTES], n: usize) -> usize {
+    page::hex(text, at, parts::bytes(shown, 0, n))
+}

@@ -1,4 +1,0 @@
-// A table as text, a line a row: `inner COUNT`, `gone LABEL`, or `pair TYPE HEX` with `-` for an empty value.
-// A value of text is shown behind ` # ` as well, and what stands there is passed over when the text is read.
-pub mod reading;
-pub mod writing;
