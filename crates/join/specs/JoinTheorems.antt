@@ -20,13 +20,15 @@ use Rattle.tables.specs.Refusals.{accepted, rootsDiffer, joinTooLarge}
 use Rattle.codec.specs.Writing.{slipOf}
 use Rattle.slips.specs.Answers.{refused}
 use Rattle.slips.specs.Check.{checkOf}
-use Rattle.slips.specs.Columns.{over}
-use Rattle.slips.specs.Pack.{Packed}
+use Rattle.slips.specs.Output.{over, Packed, still}
 use Rattle.slips.specs.SlipTrees.{SlipOf, check-complete}
-use Rattle.held.specs.SlipTree.{slipTree, slip-tree}
-use Rattle.held.specs.Sent.{still, sent, sentTree}
-use Rattle.held.specs.ByteTrees.{OfBytes, proper-bytes, tree-slip, accepted-slip}
-use Rattle.join.specs.Join.{sided, clashed, tooLarge, joinedOf, joinOf}
+use Rattle.slips.specs.SlipTree.{slipTree}
+use Rattle.slips.specs.SlipTreeLaws.{slip-tree}
+use Rattle.send.specs.Sent.{sent, sentTree}
+use Rattle.slips.specs.ByteTrees.{OfBytes, proper-bytes, tree-slip, accepted-slip}
+use Rattle.both_slips.specs.Both.{sided}
+use Rattle.join_tables.specs.Joined.{clashed, tooLarge, joinedOf}
+use Rattle.join.specs.Join.{joinOf}
 
 module _ (H : List ℕ → List ℕ) (composed : List ℕ → Bool) where
   -- two accepted slips, by their trees

@@ -1,4 +1,4 @@
 -- What the join of two slips answers and leaves.
 pub mod Join
-pub mod Joining
+-- Theorems:
 pub mod JoinTheorems

@@ -1,29 +1,28 @@
 // The join of two slips.
-mod answers;
-mod areas;
-mod merge;
-mod pair;
-
-use crate::answers::sided;
-use crate::areas::FullPair;
-use crate::areas::SmallPair;
+use both_slips::answers::sided;
+use join_tables::areas::FullPair;
+use join_tables::areas::SmallPair;
+use join_tables::merge;
 use slips::answer;
 use slips::answer::Answer;
-use slips::areas::Full;
-use slips::areas::Small;
 use slips::check;
 use slips::header;
-use tables::limits::Slip;
+use tables::areas::Small;
 use tables::refusals::Refusal;
+ghost use mathlib.Core.Path.{_≡_};
+ghost use mathlib.Core.Bool.{_&&_};
+ghost use Prim.Native.Nat.{_*_, _≤_};
+ghost use lib.Dec.{leb};
+ghost use lib.ListN.{length};
 ghost use Rattle.trees.specs.Rules.{maxBytes, maxNodes};
 ghost use Rattle.sha2.specs.Sha256 as Sha256;
 ghost use Rattle.titles.specs.Compose.{composedText};
-ghost use Rattle.slips.specs.Opening.{smallBytes, smallNodes};
-ghost use Rattle.slips.specs.Pack.{Packs};
+ghost use Rattle.tables.specs.Areas.{smallBytes, smallNodes};
+ghost use Rattle.slips.specs.Output.{Packs};
+ghost use Rattle.both_slips.specs.Contracts.{Headed, BothAsks};
 ghost use Rattle.join.specs.Join.{joinOf};
-ghost use Rattle.join.specs.Joining.{Headed, LentTwo, LentJoin};
 
-// Joins two slips whose headers are taken.
+// Joins two slips whose headers are taken, in lent areas.
 fn join_in(
     s: &[u8],
     n: usize,
@@ -33,40 +32,13 @@ fn join_in(
     counts: &mut [u16],
     lengths: &mut [u16],
     values: &mut [u8],
-    kinds: &mut [u16],
-    heights: &mut [u16],
-    sizes: &mut [u16],
-    work: &mut [u8],
     labels: &mut [u8],
-    costs: &mut [u16],
-    starts: &mut [usize],
-    offsets: &mut [usize],
-    cells: &mut [usize],
-    types2: &mut [u16],
-    counts2: &mut [u16],
-    lengths2: &mut [u16],
-    values2: &mut [u8],
     out: &mut [u8],
 ) -> Answer
-    requires { ⌜ LentTwo (now s) n (now u) m (now types) (now counts) (now lengths) (now values) (now kinds) (now heights) (now sizes) (now work) (now labels) (now costs) × LentJoin (now types) (now values) (now starts) (now offsets) (now cells) (now types2) (now counts2) (now lengths2) (now values2) ⌝ }
+    requires { ⌜ BothAsks (now s) n (now u) m (now types) (now counts) (now lengths) (now values) (now labels) × (length (now values) ≤ 2 * maxBytes) ⌝ }
     ensures { λ r. ⌜ Packs (joinOf Sha256.label composedText (now (s .entry)) (now (u .entry)) (now (out .entry))) r (now (out .exit)) ⌝ }
 {
-    let p = pair::hold_two(
-        s,
-        n,
-        u,
-        m,
-        types,
-        counts,
-        lengths,
-        values,
-        kinds,
-        heights,
-        sizes,
-        work,
-        labels,
-        costs,
-    );
+    let p = both_slips::hold_both(s, n, u, m, types, counts, lengths, values, labels);
     if p.answer.number != Refusal::ACCEPTED {
         return p.answer;
     }
@@ -80,14 +52,6 @@ fn join_in(
         &lengths[..rows],
         values,
         labels,
-        costs,
-        &mut starts[..rows],
-        &mut offsets[..rows],
-        cells,
-        types2,
-        counts2,
-        lengths2,
-        values2,
         out,
     )
 }
@@ -101,19 +65,7 @@ fn small(s: &[u8], n: usize, u: &[u8], m: usize, out: &mut [u8]) -> Answer
     let mut counts = [0u16; SmallPair::ROWS];
     let mut lengths = [0u16; SmallPair::ROWS];
     let mut values = [0u8; SmallPair::BYTES];
-    let mut kinds = [0u16; Small::NODES];
-    let mut heights = [0u16; Small::NODES];
-    let mut sizes = [0u16; Small::NODES];
-    let mut work = [0u8; Small::WORK];
     let mut labels = [0u8; SmallPair::LABELS];
-    let mut costs = [0u16; SmallPair::ROWS];
-    let mut starts = [0usize; SmallPair::ROWS];
-    let mut offsets = [0usize; SmallPair::ROWS];
-    let mut cells = [0usize; SmallPair::ROWS];
-    let mut types2 = [0u16; SmallPair::ROWS];
-    let mut counts2 = [0u16; SmallPair::ROWS];
-    let mut lengths2 = [0u16; SmallPair::ROWS];
-    let mut values2 = [0u8; SmallPair::BYTES];
     join_in(
         s,
         n,
@@ -123,19 +75,7 @@ fn small(s: &[u8], n: usize, u: &[u8], m: usize, out: &mut [u8]) -> Answer
         &mut counts,
         &mut lengths,
         &mut values,
-        &mut kinds,
-        &mut heights,
-        &mut sizes,
-        &mut work,
         &mut labels,
-        &mut costs,
-        &mut starts,
-        &mut offsets,
-        &mut cells,
-        &mut types2,
-        &mut counts2,
-        &mut lengths2,
-        &mut values2,
         out,
     )
 }
@@ -149,19 +89,7 @@ fn large(s: &[u8], n: usize, u: &[u8], m: usize, out: &mut [u8]) -> Answer
     let mut counts = [0u16; FullPair::ROWS];
     let mut lengths = [0u16; FullPair::ROWS];
     let mut values = [0u8; FullPair::BYTES];
-    let mut kinds = [0u16; Slip::MAX_NODES];
-    let mut heights = [0u16; Slip::MAX_NODES];
-    let mut sizes = [0u16; Slip::MAX_NODES];
-    let mut work = [0u8; Full::WORK];
     let mut labels = [0u8; FullPair::LABELS];
-    let mut costs = [0u16; FullPair::ROWS];
-    let mut starts = [0usize; FullPair::ROWS];
-    let mut offsets = [0usize; FullPair::ROWS];
-    let mut cells = [0usize; FullPair::ROWS];
-    let mut types2 = [0u16; FullPair::ROWS];
-    let mut counts2 = [0u16; FullPair::ROWS];
-    let mut lengths2 = [0u16; FullPair::ROWS];
-    let mut values2 = [0u8; FullPair::BYTES];
     join_in(
         s,
         n,
@@ -171,21 +99,16 @@ fn large(s: &[u8], n: usize, u: &[u8], m: usize, out: &mut [u8]) -> Answer
         &mut counts,
         &mut lengths,
         &mut values,
-        &mut kinds,
-        &mut heights,
-        &mut sizes,
-        &mut work,
         &mut labels,
-        &mut costs,
-        &mut starts,
-        &mut offsets,
-        &mut cells,
-        &mut types2,
-        &mut counts2,
-        &mut lengths2,
-        &mut values2,
         out,
     )
+}
+
+// Whether a slip of n entries is a small one.
+fn is_small(s: &[u8], n: usize) -> bool
+    ensures { λ r. ⌜ r ≡ (leb (length (now (s .entry))) smallBytes && leb n smallNodes) ⌝ }
+{
+    s.len() <= Small::BYTES && n <= Small::NODES
 }
 
 // Joins two slips into an output: the refusal and its side, or the slip of the smallest tree that both are prunings of.
@@ -207,13 +130,9 @@ pub fn join(s: &[u8], u: &[u8], out: &mut [u8]) -> Answer
     }
     let n = h.count;
     let m = g.count;
-    if s.len() <= Small::BYTES {
-        if u.len() <= Small::BYTES {
-            if n <= Small::NODES {
-                if m <= Small::NODES {
-                    return small(s, n, u, m, out);
-                }
-            }
+    if is_small(s, n) {
+        if is_small(u, m) {
+            return small(s, n, u, m, out);
         }
     }
     large(s, n, u, m, out)

@@ -6,7 +6,7 @@ use native.Mathlib.Omega.{arith}
 use lib.ListN.{length, take, drop, getD, replicate}
 use Rattle.trees.specs.Nodes.{Node, inner, leaf, nil, cons}
 use Rattle.trees.specs.Rules.{labelBytes}
-use Rattle.trees.specs.RowLabels.{labelsOf, costsOf}
+use Rattle.trees.specs.RowLabels.{labelsOf}
 use Rattle.trees.specs.Join.{clash, join}
 use Rattle.trees.specs.Rows.{rows}
 use Rattle.tables.specs.Tables.{entries, rowFits, firstBad, sum}
@@ -38,15 +38,12 @@ values = replicate 32 0 ++ (0 ∷ replicate 32 0) ++ (1 ∷ [])
 abbrev labels : List ℕ
 labels = replicate 192 41
 
-abbrev costs : List ℕ
-costs = 1 ∷ 1 ∷ 1 ∷ 1 ∷ 1 ∷ 1 ∷ []
-
--- the table of either tree, wherever its values, labels and costs stand
-held : (v : ℕ) (vs ls cs : List ℕ) → entries (1 ∷ 600 ∷ 0 ∷ []) (0 ∷ 0 ∷ 2 ∷ []) (32 ∷ 1 ∷ 0 ∷ []) vs ≡ rows (tree v) → 33 ≤ length vs
-    → 96 ≤ length ls → take labelBytes (drop (labelBytes * 2) ls) ≡ replicate 32 41 → 3 ≤ length cs → getD cs 2 0 ≡ 1
-    → Holds copies (tree v) (1 ∷ 600 ∷ 0 ∷ []) (0 ∷ 0 ∷ 2 ∷ []) (32 ∷ 1 ∷ 0 ∷ []) vs ls cs
+-- the table of either tree, wherever its values and labels stand
+held : (v : ℕ) (vs ls : List ℕ) → entries (1 ∷ 600 ∷ 0 ∷ []) (0 ∷ 0 ∷ 2 ∷ []) (32 ∷ 1 ∷ 0 ∷ []) vs ≡ rows (tree v) → 33 ≤ length vs
+    → 96 ≤ length ls → take labelBytes (drop (labelBytes * 2) ls) ≡ replicate 32 41
+    → Holds copies (tree v) (1 ∷ 600 ∷ 0 ∷ []) (0 ∷ 0 ∷ 2 ∷ []) (32 ∷ 1 ∷ 0 ∷ []) vs ls
 unfolding rowFits firstBad sum
-held v vs ls cs e h k l m c =
+held v vs ls e h k l =
     record {
       counts-long = refl;
       lengths-long = refl;
@@ -56,8 +53,6 @@ held v vs ls cs e h k l m c =
       rows-are = e;
       labels-room = k;
       labels-are = labelled;
-      costs-room = m;
-      costs-are = priced;
     }
   where
     labelled : (k : ℕ) → k < 3 → 0 < getD (0 ∷ 0 ∷ 2 ∷ []) k 0 → take labelBytes (drop (labelBytes * k) ls) ≡ getD (labelsOf copies (tree v)) k []
@@ -66,19 +61,13 @@ held v vs ls cs e h k l m c =
     labelled (suc (suc zero)) h p = l
     labelled (suc (suc (suc k))) h p = absurd (omega arith)
 
-    priced : (k : ℕ) → k < 3 → 0 < getD (0 ∷ 0 ∷ 2 ∷ []) k 0 → getD cs k 0 ≡ getD (costsOf copies (tree v)) k 0
-    priced zero h p = absurd (omega arith)
-    priced (suc zero) h p = absurd (omega arith)
-    priced (suc (suc zero)) h p = c
-    priced (suc (suc (suc k))) h p = absurd (omega arith)
-
 -- both tables end to end
-pub example-two : Two copies (tree 0) (tree 1) 3 types counts lengths values labels costs
+pub example-two : Two copies (tree 0) (tree 1) 3 types counts lengths values labels
 unfolding sum
 example-two =
     record {
-      one = held 0 values labels costs refl (omega arith) (omega arith) refl (omega arith) refl;
-      two = held 1 (drop 33 values) (drop 96 labels) (drop 3 costs) refl (omega arith) (omega arith) refl (omega arith) refl;
+      one = held 0 values labels refl (omega arith) (omega arith) refl;
+      two = held 1 (drop 33 values) (drop 96 labels) refl (omega arith) (omega arith) refl;
     }
 
 -- their join clashes at the roots, rows 2 and 5

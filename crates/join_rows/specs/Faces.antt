@@ -2,7 +2,7 @@
 use mathlib.Core.List.{List, [], _∷_, _++_}
 use Prim.Native.Nat.{ℕ, _+_}
 use lib.ListN.{length}
-use Rattle.trees.specs.Nodes.{Node, Run, inner, leaf, nil, cons, sizes, Head, prelabel, heads, blocksOf}
+use Rattle.trees.specs.Nodes.{Node, Run, inner, leaf, nil, cons, sizes, Head, prelabel, heads}
 use Rattle.trees.specs.Rows.{Entry, node, tip}
 
 -- a leaf shows its type and its label or value, an internal node "the sequence of type-label pairs of the children" (000, 5.2.1)
@@ -28,11 +28,6 @@ countOfFace (ofInner hs) = length hs
 abbrev pub bytesOfFace : Face → ℕ
 bytesOfFace (ofLeaf t v) = length v
 bytesOfFace (ofInner hs) = 0
-
--- the blocks that its own label takes
-abbrev pub costOfFace : Face → ℕ
-costOfFace (ofLeaf t v) = 0
-costOfFace (ofInner hs) = blocksOf (length (prelabel hs))
 
 module _ (H : List ℕ → List ℕ) where
   -- what its parent hashes of it

@@ -1,17 +1,14 @@
--- The rows, labels and costs of a tree are those of its faces.
+-- The rows and labels of a tree are those of its faces.
 use mathlib.Core.Path.{_≡_, refl, sym, ap, ap₂, _∙_}
 use mathlib.Core.List.{List, [], _∷_, _++_, map, map-append}
-use Prim.Native.Nat.{ℕ, _+_}
-use native.Mathlib.Omega.{arith}
+use Prim.Native.Nat.{ℕ}
 use lib.ListN.{length, length-map}
-use Rattle.trees.specs.Nodes.{Node, Run, inner, leaf, nil, cons, size, sizes, label, heads, blocks, blocksIn}
+use Rattle.trees.specs.Nodes.{Node, Run, inner, leaf, nil, cons, size, sizes, label, heads}
 use Rattle.trees.specs.Rows.{Entry, node, rows, rowsIn}
 use Rattle.trees.specs.RowsLaws.{length-rows, length-rows-in}
-use Rattle.trees.specs.RowLabels.{labelsOf, labelsIn, costsOf, costsIn}
+use Rattle.trees.specs.RowLabels.{labelsOf, labelsIn}
 use Rattle.trees.specs.StackLaws.{length-heads}
-use Rattle.tables.specs.Tables.{sum}
-use Rattle.tables.specs.TablesLaws.{sum-append}
-use Rattle.join_rows.specs.Faces.{Face, ofInner, entryOfFace, costOfFace, headOfFace, faces, facesIn}
+use Rattle.join_rows.specs.Faces.{Face, ofInner, entryOfFace, headOfFace, faces, facesIn}
 
 module _ (H : List ℕ → List ℕ) where
   mutual
@@ -40,38 +37,9 @@ module _ (H : List ℕ → List ℕ) where
     labels-faces-in nil = refl
     labels-faces-in (cons n r) = map-append textOfFace (faces H n) (facesIn H r) ∙ ap₂ _++_ (labels-faces n) (labels-faces-in r)
 
-  mutual
-    pub costs-faces : (n : Node) → map costOfFace (faces H n) ≡ costsOf H n
-    costs-faces (inner r) =
-        map-append costOfFace (facesIn H r) (ofInner (heads H r) ∷ [])
-        ∙ ap (λ (x : List ℕ). x ++ (costOfFace (ofInner (heads H r)) ∷ [])) (costs-faces-in r)
-    costs-faces (leaf t v) = refl
-
-    pub costs-faces-in : (r : Run) → map costOfFace (facesIn H r) ≡ costsIn H r
-    costs-faces-in nil = refl
-    costs-faces-in (cons n r) = map-append costOfFace (faces H n) (facesIn H r) ∙ ap₂ _++_ (costs-faces n) (costs-faces-in r)
-
   -- one face a node
   pub length-faces : (n : Node) → length (faces H n) ≡ size n
   length-faces n = sym (length-map (faces H n) entryOfFace) ∙ ap length (rows-faces n) ∙ length-rows n
 
   pub length-faces-in : (r : Run) → length (facesIn H r) ≡ sizes r
   length-faces-in r = sym (length-map (facesIn H r) entryOfFace) ∙ ap length (rows-faces-in r) ∙ length-rows-in r
-
-  -- "the sum of this over the internal nodes present"
-  mutual
-    unfolding sum
-
-    pub blocks-faces : (n : Node) → sum (map costOfFace (faces H n)) ≡ blocks H n
-    blocks-faces (inner r) =
-        ap sum (map-append costOfFace (facesIn H r) (ofInner (heads H r) ∷ []))
-        ∙ sum-append (map costOfFace (facesIn H r)) (costOfFace (ofInner (heads H r)) ∷ [])
-        ∙ (let h = blocks-faces-in r in omega arith)
-    blocks-faces (leaf t v) = refl
-
-    blocks-faces-in : (r : Run) → sum (map costOfFace (facesIn H r)) ≡ blocksIn H r
-    blocks-faces-in nil = refl
-    blocks-faces-in (cons n r) =
-        ap sum (map-append costOfFace (faces H n) (facesIn H r))
-        ∙ sum-append (map costOfFace (faces H n)) (map costOfFace (facesIn H r))
-        ∙ ap₂ _+_ (blocks-faces n) (blocks-faces-in r)

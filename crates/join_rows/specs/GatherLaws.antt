@@ -1,20 +1,21 @@
--- What a plan names, where each row shows a face: the table of the tree with these faces, and the blocks of its labels.
+-- What a plan names, where each row shows a face: the table of the tree with these faces.
 use mathlib.Core.Path.{_≡_, refl, sym, ap, ap₂, _∙_}
 use mathlib.Core.List.{List, [], _∷_, _++_, map}
-use Prim.Native.Nat.{ℕ, zero, suc, _+_, _*_, _<_}
+use Prim.Native.Nat.{ℕ, zero, suc, _+_, _*_, _≤_, _<_}
 use native.Mathlib.Omega.{arith}
 use lib.ListN.{length, take, drop, getD, length-append, length-map}
 use lib.Seq.{take-at, drop-at}
-use Rattle.trees.specs.Nodes.{Node, size, blocks}
-use Rattle.trees.specs.Rules.{labelBytes}
-use Rattle.trees.specs.Rows.{Entry, rows}
+use Rattle.trees.specs.Nodes.{Node}
+use Rattle.trees.specs.Rules.{labelBytes, maxNodes}
+use Rattle.trees.specs.Rows.{Entry}
+use Rattle.tables.specs.Records.{TreeTable}
 use Rattle.tables.specs.Tables.{entryOf, entries, firstBad, sum}
-use Rattle.join_rows.specs.Lists.{concat, Names, names-length}
-use Rattle.join_rows.specs.Faces.{Face, noFace, entryOfFace, bytesOfFace, costOfFace, faces}
-use Rattle.join_rows.specs.FacesLaws.{rows-faces, blocks-faces, length-faces}
+use Rattle.join_rows.specs.Lists.{concat, Names}
+use Rattle.join_rows.specs.Faces.{Face, noFace, entryOfFace, bytesOfFace, faces}
+use Rattle.join_rows.specs.FacesLaws.{rows-faces}
 use Rattle.join_rows.specs.Columns.{valueAt}
-use Rattle.join_rows.specs.Gathers.{cellOf, costAt, InRange}
-use Rattle.join_rows.specs.TablesLaws.{Shows, shown-cost, shown-bytes}
+use Rattle.join_rows.specs.Gathers.{cellOf, InRange, valuesOf}
+use Rattle.join_rows.specs.TablesLaws.{Shows, shown-bytes}
 use Rattle.join_rows.specs.TwoLaws.{counts-long, lengths-long}
 
 -- a plan that names what stands in fs is in range
@@ -24,19 +25,9 @@ names-in-range fs (c ∷ plan) [] h k q = absurd h
 names-in-range fs (c ∷ plan) (x ∷ xs) h zero q = h .0
 names-in-range fs (c ∷ plan) (x ∷ xs) h (suc k) q = names-in-range fs plan xs (h .2) k (omega arith)
 
--- the table that a tree's rows make, in whole columns, and the blocks that its labels take
-pub record TableOf (H : List ℕ → List ℕ) (c : Node) (types counts lengths values : List ℕ) (taken : ℕ) : Type 0 where
-  pub long : length types ≡ size c
-  pub counts-long : length counts ≡ length types
-  pub lengths-long : length lengths ≡ length types
-  pub rows-are : entries types counts lengths values ≡ rows c
-  pub formed : firstBad 0 types counts lengths ≡ length types
-  pub area : sum lengths ≡ length values
-  pub blocks-are : taken ≡ blocks H c
-
-module _ (H : List ℕ → List ℕ) (fs : List Face) (types counts lengths values labels costs offsets : List ℕ)
+module _ (H : List ℕ → List ℕ) (fs : List Face) (types counts lengths values labels offsets : List ℕ)
     (shows : (x : ℕ) → x < length fs → Shows H (getD types x 0) (getD counts x 0) (getD lengths x 0) (valueAt lengths values offsets x)
-    (take labelBytes (drop (labelBytes * x) labels)) (getD costs x 0) (getD fs x noFace))
+    (take labelBytes (drop (labelBytes * x) labels)) (getD fs x noFace))
     (whole : (x : ℕ) → x < length fs → length (valueAt lengths values offsets x) ≡ getD lengths x 0) where
   named-entries : (plan : List ℕ) (xs : List Face) → Names noFace fs plan xs
       → entries (map (cellOf types) plan) (map (cellOf counts) plan) (map (cellOf lengths) plan) (concat (map (valueAt lengths values offsets) plan))
@@ -61,19 +52,12 @@ module _ (H : List ℕ → List ℕ) (fs : List Face) (types counts lengths valu
   named-formed i (c ∷ plan) [] h = absurd h
   named-formed i (c ∷ plan) (x ∷ xs) h = rw (shows c (h .0) .form) (let e = named-formed (i + 1) plan xs (h .2) in omega arith)
 
-  named-costs : (plan : List ℕ) (xs : List Face) → Names noFace fs plan xs → map (costAt counts costs) plan ≡ map costOfFace xs
-  named-costs [] [] h = refl
-  named-costs [] (x ∷ xs) h = absurd h
-  named-costs (c ∷ plan) [] h = absurd h
-  named-costs (c ∷ plan) (x ∷ xs) h =
-      ap₂ (λ (e : ℕ) (es : List ℕ). e ∷ es) (shown-cost H _ _ _ _ _ _ _ (shows c (h .0)) ∙ ap costOfFace (h .1)) (named-costs plan xs (h .2))
-
   pub named-bytes : (plan : List ℕ) (xs : List Face) → Names noFace fs plan xs → map (cellOf lengths) plan ≡ map bytesOfFace xs
   named-bytes [] [] h = refl
   named-bytes [] (x ∷ xs) h = absurd h
   named-bytes (c ∷ plan) [] h = absurd h
   named-bytes (c ∷ plan) (x ∷ xs) h =
-      ap₂ (λ (e : ℕ) (es : List ℕ). e ∷ es) (shown-bytes H _ _ _ _ _ _ _ (shows c (h .0)) (whole c (h .0)) ∙ ap bytesOfFace (h .1))
+      ap₂ (λ (e : ℕ) (es : List ℕ). e ∷ es) (shown-bytes H _ _ _ _ _ _ (shows c (h .0)) (whole c (h .0)) ∙ ap bytesOfFace (h .1))
       (named-bytes plan xs (h .2))
 
   named-area : (plan : List ℕ) (xs : List Face) → Names noFace fs plan xs
@@ -91,16 +75,14 @@ module _ (H : List ℕ → List ℕ) (fs : List Face) (types counts lengths valu
       )
 
   -- the whole columns, where the plan names the rows of the tree c
-  pub named-table : (plan : List ℕ) (c : Node) → Names noFace fs plan (faces H c)
-      → TableOf H c (map (cellOf types) plan) (map (cellOf counts) plan) (map (cellOf lengths) plan) (concat (map (valueAt lengths values offsets) plan))
-      (sum (map (costAt counts costs) plan))
-  named-table plan c h =
+  pub named-table : (plan : List ℕ) (c : Node) → Names noFace fs plan (faces H c) → length plan ≤ maxNodes
+      → TreeTable c (map (cellOf types) plan) (map (cellOf counts) plan) (map (cellOf lengths) plan) (valuesOf plan lengths values offsets)
+  named-table plan c h few =
       record {
-        long = length-map plan (cellOf types) ∙ names-length noFace fs plan (faces H c) h ∙ length-faces H c;
         counts-long = length-map plan (cellOf counts) ∙ sym (length-map plan (cellOf types));
         lengths-long = length-map plan (cellOf lengths) ∙ sym (length-map plan (cellOf types));
         rows-are = named-entries plan (faces H c) h ∙ rows-faces H c;
         formed = named-formed 0 plan (faces H c) h ∙ omega (arith, length-map plan (cellOf types));
-        area = named-area plan (faces H c) h;
-        blocks-are = ap sum (named-costs plan (faces H c) h) ∙ blocks-faces H c;
+        few = omega (arith, length-map plan (cellOf types));
+        area = omega (arith, named-area plan (faces H c) h);
       }

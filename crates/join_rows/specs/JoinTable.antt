@@ -1,45 +1,43 @@
--- What is gathered by a plan of the join is the join's table, in no more room than both tables have.
+-- What a plan of the join names is the join's table, in no more room than both tables have.
 use mathlib.Core.Path.{_≡_, refl, sym, ap, _∙_, subst}
 use mathlib.Core.List.{List, _++_, map, map-append}
 use Prim.Native.Nat.{ℕ, _*_, _≤_, _<_}
 use native.Mathlib.Omega.{arith}
 use lib.ListN.{length, take, drop, getD, length-drop, length-map, List·getD-map}
 use lib.Seq.{length-take-le, ext-getD}
-use Rattle.trees.specs.Nodes.{Node, blocks, size}
+use Rattle.trees.specs.Nodes.{Node}
 use Rattle.trees.specs.Rules.{labelBytes, maxNodes}
 use Rattle.trees.specs.Join.{ok, join}
-use Rattle.trees.specs.Rows.{rows}
+use Rattle.tables.specs.Records.{TreeTable}
 use Rattle.tables.specs.Tables.{sum}
-use Rattle.join_rows.specs.declared.gather.Gathered.{Gathered}
 use Rattle.tables.specs.TablesLaws.{sum-append, sum-part}
-use Rattle.join_rows.specs.Lists.{Names, names-length}
+use Rattle.join_rows.specs.Lists.{Names}
 use Rattle.join_rows.specs.Faces.{Face, noFace, bytesOfFace, faces}
 use Rattle.join_rows.specs.Columns.{valueAt, Surveyed}
 use Rattle.join_rows.specs.Plans.{Two}
-use Rattle.join_rows.specs.Gathers.{cellOf, Gathers, InRange, Gathering}
+use Rattle.join_rows.specs.Gathers.{cellOf, valuesOf, InRange, Gatherable}
 use Rattle.join_rows.specs.JoinWeight.{Light, join-light}
 use Rattle.join_rows.specs.TablesLaws.{Shows, shows-as, shown-bytes}
-use Rattle.join_rows.specs.TwoLaws.{row-shows, all-faces, counts-long, lengths-long, values-room, first-low, two-ready}
-use Rattle.join_rows.specs.FacesLaws.{length-faces}
-use Rattle.join_rows.specs.GatherLaws.{TableOf, named-table, named-bytes, names-in-range}
+use Rattle.join_rows.specs.TwoLaws.{row-shows, all-faces, counts-long, lengths-long, values-room, two-ready}
+use Rattle.join_rows.specs.GatherLaws.{named-table, named-bytes, names-in-range}
 
-module _ (H : List ℕ → List ℕ) (a b : Node) (first : ℕ) (types counts lengths values labels costs starts offsets : List ℕ)
-    (h : Two H a b first types counts lengths values labels costs) (g : Surveyed counts lengths starts offsets) where
+module _ (H : List ℕ → List ℕ) (a b : Node) (first : ℕ) (types counts lengths values labels starts offsets : List ℕ)
+    (h : Two H a b first types counts lengths values labels) (g : Surveyed counts lengths starts offsets) where
   abbrev both : List Face
   both = faces H a ++ faces H b
 
   row-low : (x : ℕ) → x < length both → x < length lengths
   row-low x q =
-      omega (arith, all-faces H a b first types counts lengths values labels costs h, lengths-long H a b first types counts lengths values labels costs h)
+      omega (arith, all-faces H a b first types counts lengths values labels h, lengths-long H a b first types counts lengths values labels h)
 
   two-shows : (x : ℕ) → x < length both → Shows H (getD types x 0) (getD counts x 0) (getD lengths x 0) (valueAt lengths values offsets x)
-      (take labelBytes (drop (labelBytes * x) labels)) (getD costs x 0) (getD both x noFace)
+      (take labelBytes (drop (labelBytes * x) labels)) (getD both x noFace)
   two-shows x q =
-      let low : x < length types = omega (arith, all-faces H a b first types counts lengths values labels costs h) in
+      let low : x < length types = omega (arith, all-faces H a b first types counts lengths values labels h) in
       let at : sum (take x lengths) ≡ getD offsets x 0 =
-      sym (g .offsets-are x (omega (arith, counts-long H a b first types counts lengths values labels costs h, low))) in
-      shows-as refl refl refl (ap (λ (n : ℕ). take (getD lengths x 0) (drop n values)) at) refl refl refl
-      (row-shows H a b first types counts lengths values labels costs h x low)
+      sym (g .offsets-are x (omega (arith, counts-long H a b first types counts lengths values labels h, low))) in
+      shows-as refl refl refl (ap (λ (n : ℕ). take (getD lengths x 0) (drop n values)) at) refl refl
+      (row-shows H a b first types counts lengths values labels h x low)
 
   two-whole : (x : ℕ) → x < length both → length (valueAt lengths values offsets x) ≡ getD lengths x 0
   two-whole x q =
@@ -51,21 +49,17 @@ module _ (H : List ℕ → List ℕ) (a b : Node) (first : ℕ) (types counts le
         g .offsets-are x (omega (
           arith,
           low,
-          lengths-long H a b first types counts lengths values labels costs h,
-          counts-long H a b first types counts lengths values labels costs h,
+          lengths-long H a b first types counts lengths values labels h,
+          counts-long H a b first types counts lengths values labels h,
         )),
         sum-part lengths x low,
-        values-room H a b first types counts lengths values labels costs h,
+        values-room H a b first types counts lengths values labels h,
       ))
 
-  -- the columns cut at the rows and bytes gathered are the table of the tree that the plan names
-  pub gathered-table : (plan outTypes outCounts outLengths outValues : List ℕ) (r : Gathered) (c : Node)
-      → Names noFace both plan (faces H c)
-      → Gathers plan types counts lengths values costs offsets outTypes outCounts outLengths outValues r
-      → TableOf H c (take (r .rows) outTypes) (take (r .rows) outCounts) (take (r .rows) outLengths) (take (r .used) outValues) (r .blocks)
-  gathered-table plan outTypes outCounts outLengths outValues r c names s =
-      rw (s .types-are, s .counts-are, s .lengths-are, s .values-are, s .blocks-are)
-      (named-table H both types counts lengths values labels costs offsets two-shows two-whole plan c names)
+  -- what the plan names is the table of its tree
+  pub planned-table : (plan : List ℕ) (c : Node) → Names noFace both plan (faces H c) → length plan ≤ maxNodes
+      → TreeTable c (map (cellOf types) plan) (map (cellOf counts) plan) (map (cellOf lengths) plan) (valuesOf plan lengths values offsets)
+  planned-table = named-table H both types counts lengths values labels offsets two-shows two-whole
 
   -- the values of the join take no more room than those of both tables
   pub join-room : (plan : List ℕ) (c : Node) → join H a b ≡ ok c → Names noFace both plan (faces H c)
@@ -74,44 +68,35 @@ module _ (H : List ℕ → List ℕ) (a b : Node) (first : ℕ) (types counts le
       let light = subst (Light H bytesOfFace (λ hs ks. refl) a b) e (join-light H bytesOfFace (λ hs ks. refl) a b) in
       let all : lengths ≡ map bytesOfFace both =
       ext-getD 0 lengths (map bytesOfFace both)
-      (lengths-long H a b first types counts lengths values labels costs h
-      ∙ sym (all-faces H a b first types counts lengths values labels costs h)
+      (lengths-long H a b first types counts lengths values labels h
+      ∙ sym (all-faces H a b first types counts lengths values labels h)
       ∙ sym (length-map both bytesOfFace))
       (λ i q.
       let low : i < length both =
       omega (
         arith,
-        all-faces H a b first types counts lengths values labels costs h,
-        lengths-long H a b first types counts lengths values labels costs h,
+        all-faces H a b first types counts lengths values labels h,
+        lengths-long H a b first types counts lengths values labels h,
       ) in
-      shown-bytes H _ _ _ _ _ _ _ (two-shows i low) (two-whole i low) ∙ sym (List·getD-map bytesOfFace both i noFace)) in
+      shown-bytes H _ _ _ _ _ _ (two-shows i low) (two-whole i low) ∙ sym (List·getD-map bytesOfFace both i noFace)) in
       omega (
         arith,
-        ap sum (named-bytes H both types counts lengths values labels costs offsets two-shows two-whole plan (faces H c) names),
+        ap sum (named-bytes H both types counts lengths values labels offsets two-shows two-whole plan (faces H c) names),
         ap sum all,
         ap sum (map-append bytesOfFace (faces H a) (faces H b)),
         sum-append (map bytesOfFace (faces H a)) (map bytesOfFace (faces H b)),
       )
 
-  -- so a plan of the join can be gathered where there is room for its rows and for the values of both tables
-  pub join-gathering : (plan outTypes outCounts outLengths outValues : List ℕ) (c : Node) → join H a b ≡ ok c
-      → Names noFace both plan (faces H c) → size c ≤ maxNodes → size c ≤ length outTypes → size c ≤ length outCounts
-      → size c ≤ length outLengths → sum lengths ≤ length outValues
-      → Gathering plan types counts lengths values costs offsets outTypes outCounts outLengths outValues
-  join-gathering plan outTypes outCounts outLengths outValues c e names few forTypes forCounts forLengths forValues =
-      let rows : length plan ≡ size c = names-length noFace both plan (faces H c) names ∙ length-faces H c in
-      let ready = two-ready H a b first types counts lengths values labels costs h starts offsets g in
+  -- it can be gathered
+  pub join-gathering : (plan : List ℕ) (c : Node) → Names noFace both plan (faces H c) → length plan ≤ maxNodes
+      → Gatherable plan types counts lengths values offsets
+  join-gathering plan c names few =
+      let ready = two-ready H a b first types counts lengths values labels h starts offsets g in
       record {
-        few = omega (arith, rows);
-        in-range = subst (InRange plan) (all-faces H a b first types counts lengths values labels costs h) (names-in-range both plan (faces H c) names);
+        few = few;
+        in-range = subst (InRange plan) (all-faces H a b first types counts lengths values labels h) (names-in-range both plan (faces H c) names);
         counts-long = ready .counts-long;
         lengths-long = ready .lengths-long;
         offsets-long = ready .offsets-long;
-        costs-long =
-            omega (arith, h .two .costs-room, length-drop first types, length-drop first costs, first-low H a b first types counts lengths values labels costs h);
         inside = ready .inside;
-        types-room = omega (arith, rows);
-        counts-room = omega (arith, rows);
-        lengths-room = omega (arith, rows);
-        values-room = omega (arith, join-room plan c e names);
       }

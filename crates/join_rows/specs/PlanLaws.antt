@@ -20,14 +20,14 @@ use Rattle.join_rows.specs.Plans.{Two, PlannedAs}
 use Rattle.join_rows.specs.StartsLaws.{root-last}
 use Rattle.join_rows.specs.TwoLaws.{first-rows, all-rows, two-reads}
 
-module _ (H : List ℕ → List ℕ) (a b : Node) (first : ℕ) (types counts lengths values labels costs starts offsets : List ℕ)
-    (h : Two H a b first types counts lengths values labels costs) (g : Surveyed counts lengths starts offsets) where
+module _ (H : List ℕ → List ℕ) (a b : Node) (first : ℕ) (types counts lengths values labels starts offsets : List ℕ)
+    (h : Two H a b first types counts lengths values labels) (g : Surveyed counts lengths starts offsets) where
   abbrev fs : List Face
   fs = faces H a ++ faces H b
 
   second-at : At noFace fs first (faces H b)
   second-at =
-      subst (λ (n : ℕ). At noFace fs n (faces H b)) (length-faces H a ∙ sym (first-rows H a b first types counts lengths values labels costs h))
+      subst (λ (n : ℕ). At noFace fs n (faces H b)) (length-faces H a ∙ sym (first-rows H a b first types counts lengths values labels h))
       (subst (λ (l : List Face). At noFace (faces H a ++ l) (length (faces H a)) (faces H b)) (append-nil (faces H b))
       (at-part noFace (faces H a) (faces H b) []))
 
@@ -36,11 +36,11 @@ module _ (H : List ℕ → List ℕ) (a b : Node) (first : ℕ) (types counts le
       → NodeWalk types counts lengths values labels starts offsets p q (first - 1) (length types - 1) at w
       → Said H fs a b 0 first at p q w (join H a b)
   two-said p q at w n =
-      let rows : first ≡ size a = first-rows H a b first types counts lengths values labels costs h in
-      n .said H fs (two-reads H a b first types counts lengths values labels costs h starts offsets g) a b 0 first
+      let rows : first ≡ size a = first-rows H a b first types counts lengths values labels h in
+      n .said H fs (two-reads H a b first types counts lengths values labels h starts offsets g) a b 0 first
       (at-part noFace [] (faces H a) (faces H b)) second-at
       (omega (arith, root-last 0 a))
-      (omega (arith, root-last first b, all-rows H a b first types counts lengths values labels costs h))
+      (omega (arith, root-last first b, all-rows H a b first types counts lengths values labels h))
 
   -- a clash, with the second tree's own entry number
   pub clash-planned : (p q : List ℕ) (at : ℕ) (w : Walked) → w .clash ≡ true → (j : Joint) → Said H fs a b 0 first at p q w j

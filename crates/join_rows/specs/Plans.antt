@@ -16,19 +16,18 @@ use Rattle.join_rows.specs.Faces.{noFace, faces}
 use Rattle.join_rows.specs.Columns.{Surveyed}
 
 -- the tables of two trees stand end to end in the columns, the second from row `first` on; its values follow the first's
-pub record Two (H : List ℕ → List ℕ) (a b : Node) (first : ℕ) (types counts lengths values labels costs : List ℕ) : Type 0 where
-  pub one : Holds H a (take first types) (take first counts) (take first lengths) values labels costs
+pub record Two (H : List ℕ → List ℕ) (a b : Node) (first : ℕ) (types counts lengths values labels : List ℕ) : Type 0 where
+  pub one : Holds H a (take first types) (take first counts) (take first lengths) values labels
   pub two :
       Holds H b (drop first types) (drop first counts) (drop first lengths) (drop (sum (take first lengths)) values)
-      (drop (labelBytes * first) labels) (drop first costs)
+      (drop (labelBytes * first) labels)
 
 -- what the plan is made from: columns that hold two trees, surveyed, and room for all their rows
 pub record Planning (first : ℕ) (types counts lengths values labels starts offsets plan : List ℕ) : Type 0 where
   pub H : List ℕ → List ℕ
   pub a : Node
   pub b : Node
-  pub costs : List ℕ
-  pub two : Two H a b first types counts lengths values labels costs
+  pub two : Two H a b first types counts lengths values labels
   pub surveyed : Surveyed counts lengths starts offsets
   pub room : length types ≤ length plan
 
@@ -42,6 +41,6 @@ PlannedAs H a b plan r (clash p) = (r .clash ≡ true) × (r .first ≡ number a
 -- whatever label function and trees the columns hold
 abbrev pub Plans : ℕ → List ℕ → List ℕ → List ℕ → List ℕ → List ℕ → List ℕ → Planned → Type 0
 Plans first types counts lengths values labels plan r =
-    (H : List ℕ → List ℕ) (a b : Node) (costs : List ℕ)
-    → Two H a b first types counts lengths values labels costs
+    (H : List ℕ → List ℕ) (a b : Node)
+    → Two H a b first types counts lengths values labels
     → PlannedAs H a b plan r (join H a b)

@@ -15,8 +15,8 @@ use Rattle.trees.specs.RowsLaws.{length-rows}
 use Rattle.tables.specs.Tables.{entryOf, entries, rowFits, firstBad, sum}
 use Rattle.tables.specs.TablesLaws.{length-entries}
 use Rattle.tables.specs.Records.{Holds}
-use Rattle.join_rows.specs.Faces.{Face, ofLeaf, ofInner, noFace, entryOfFace, countOfFace, bytesOfFace, costOfFace, headOfFace, faces}
-use Rattle.join_rows.specs.FacesLaws.{rows-faces, labels-faces, costs-faces}
+use Rattle.join_rows.specs.Faces.{Face, ofLeaf, ofInner, noFace, entryOfFace, countOfFace, bytesOfFace, headOfFace, faces}
+use Rattle.join_rows.specs.FacesLaws.{rows-faces, labels-faces}
 
 -- an entry that none of the tables has
 abbrev noEntry : Entry
@@ -51,30 +51,28 @@ row-formed i (t ∷ ts) (c ∷ cs) (l ∷ ls) e d f k h =
     go true q e g (suc k) h = g (omega arith) k (omega arith)
     go false q e g k h = absurd (omega arith)
 
--- a row shows a face: the same entry, and where it is internal the same label and the same blocks
-pub record Shows (H : List ℕ → List ℕ) (t c l : ℕ) (v text : List ℕ) (cost : ℕ) (f : Face) : Type 0 where
+-- a row shows a face: the same entry, and where it is internal the same label
+pub record Shows (H : List ℕ → List ℕ) (t c l : ℕ) (v text : List ℕ) (f : Face) : Type 0 where
   pub entry : entryOf t c v ≡ entryOfFace f
   pub form : rowFits t c l ≡ true
   pub label : 0 < c → text ≡ headOfFace H f .text
-  pub blocks : 0 < c → cost ≡ costOfFace f
 
 -- the same row, read elsewhere
-pub shows-as : {H : List ℕ → List ℕ} {t u c d l m : ℕ} {v w text words : List ℕ} {cost fee : ℕ} {f g : Face} → t ≡ u → c ≡ d → l ≡ m → v ≡ w
-    → text ≡ words → cost ≡ fee → f ≡ g → Shows H t c l v text cost f → Shows H u d m w words fee g
-shows-as {H} t c l v x o f s =
+pub shows-as : {H : List ℕ → List ℕ} {t u c d l m : ℕ} {v w text words : List ℕ} {f g : Face} → t ≡ u → c ≡ d → l ≡ m → v ≡ w
+    → text ≡ words → f ≡ g → Shows H t c l v text f → Shows H u d m w words g
+shows-as {H} t c l v x f s =
     record {
       entry = (λ i. entryOf (sym t i) (sym c i) (sym v i)) ∙ s .entry ∙ ap entryOfFace f;
       form = (λ i. rowFits (sym t i) (sym c i) (sym l i)) ∙ s .form;
       label = λ p. sym x ∙ s .label (omega (arith, c)) ∙ ap (λ e. headOfFace H e .text) f;
-      blocks = λ p. sym o ∙ s .blocks (omega (arith, c)) ∙ ap costOfFace f;
     }
 
 -- the rows of a table show the faces of its tree
-pub table-shows : (H : List ℕ → List ℕ) (n : Node) (ts cs ls vs labels costs : List ℕ) → Holds H n ts cs ls vs labels costs
+pub table-shows : (H : List ℕ → List ℕ) (n : Node) (ts cs ls vs labels : List ℕ) → Holds H n ts cs ls vs labels
     → (k : ℕ) → k < length ts
     → Shows H (getD ts k 0) (getD cs k 0) (getD ls k 0) (take (getD ls k 0) (drop (sum (take k ls)) vs))
-    (take labelBytes (drop (labelBytes * k) labels)) (getD costs k 0) (getD (faces H n) k noFace)
-table-shows H n ts cs ls vs labels costs t k h =
+    (take labelBytes (drop (labelBytes * k) labels)) (getD (faces H n) k noFace)
+table-shows H n ts cs ls vs labels t k h =
     record {
       entry =
           sym (entry-at ts cs ls vs k h (t .counts-long) (t .lengths-long))
@@ -85,14 +83,10 @@ table-shows H n ts cs ls vs labels costs t k h =
           t .labels-are k h p
           ∙ ap (λ (ls : List (List ℕ)). getD ls k []) (sym (labels-faces H n))
           ∙ List·getD-map (λ f. headOfFace H f .text) (faces H n) k noFace;
-      blocks = λ p.
-          t .costs-are k h p
-          ∙ ap (λ (ns : List ℕ). getD ns k 0) (sym (costs-faces H n))
-          ∙ List·getD-map costOfFace (faces H n) k noFace;
     }
 
-pub table-long : (H : List ℕ → List ℕ) (n : Node) (ts cs ls vs labels costs : List ℕ) → Holds H n ts cs ls vs labels costs → length ts ≡ size n
-table-long H n ts cs ls vs labels costs t =
+pub table-long : (H : List ℕ → List ℕ) (n : Node) (ts cs ls vs labels : List ℕ) → Holds H n ts cs ls vs labels → length ts ≡ size n
+table-long H n ts cs ls vs labels t =
     sym (length-entries ts cs ls vs (t .counts-long) (t .lengths-long)) ∙ ap length (t .rows-are) ∙ length-rows n
 
 -- a row that names children has type 0 and no bytes
@@ -110,38 +104,32 @@ inner-typed t c l h p = (typed (eqb t 0) refl, bare (eqb l 0) refl)
 
 -- what a row shows, by the face
 module _ (H : List ℕ → List ℕ) where
-  pub shown-count : (t c l : ℕ) (v text : List ℕ) (cost : ℕ) (f : Face) → Shows H t c l v text cost f → c ≡ countOfFace f
-  shown-count t zero l v text cost (ofLeaf u w) s = refl
-  shown-count t zero l v text cost (ofInner hs) s = absurd (let e = s .entry in let z : _≡_ {A = ℕ} 0 1 = cc in omega arith)
-  shown-count t (suc c) l v text cost (ofLeaf u w) s = absurd (let e = s .entry in let z : _≡_ {A = ℕ} 0 1 = cc in omega arith)
-  shown-count t (suc c) l v text cost (ofInner hs) s = let e = s .entry in cc
+  pub shown-count : (t c l : ℕ) (v text : List ℕ) (f : Face) → Shows H t c l v text f → c ≡ countOfFace f
+  shown-count t zero l v text (ofLeaf u w) s = refl
+  shown-count t zero l v text (ofInner hs) s = absurd (let e = s .entry in let z : _≡_ {A = ℕ} 0 1 = cc in omega arith)
+  shown-count t (suc c) l v text (ofLeaf u w) s = absurd (let e = s .entry in let z : _≡_ {A = ℕ} 0 1 = cc in omega arith)
+  shown-count t (suc c) l v text (ofInner hs) s = let e = s .entry in cc
 
-  pub shown-full : (t c l : ℕ) (v text : List ℕ) (cost : ℕ) (hs : List Head) → Shows H t c l v text cost (ofInner hs) → 0 < length hs
-  shown-full t zero l v text cost hs s = absurd (let e = s .entry in let z : _≡_ {A = ℕ} 0 1 = cc in omega arith)
-  shown-full t (suc c) l v text cost hs s = let e : suc c ≡ length hs = shown-count t (suc c) l v text cost (ofInner hs) s in omega arith
+  pub shown-full : (t c l : ℕ) (v text : List ℕ) (hs : List Head) → Shows H t c l v text (ofInner hs) → 0 < length hs
+  shown-full t zero l v text hs s = absurd (let e = s .entry in let z : _≡_ {A = ℕ} 0 1 = cc in omega arith)
+  shown-full t (suc c) l v text hs s = let e : suc c ≡ length hs = shown-count t (suc c) l v text (ofInner hs) s in omega arith
 
-  pub shown-head : (t c l : ℕ) (v text : List ℕ) (cost : ℕ) (f : Face) → Shows H t c l v text cost f
+  pub shown-head : (t c l : ℕ) (v text : List ℕ) (f : Face) → Shows H t c l v text f
       → record { kind = t; text = cond (eqb c 0) v text } ≡ headOfFace H f
-  shown-head t zero l v text cost (ofLeaf u w) s =
+  shown-head t zero l v text (ofLeaf u w) s =
       let e = s .entry in
       let kinds : t ≡ u = cc in
       let texts : v ≡ w = cc in
       λ i. record { kind = kinds i; text = texts i }
-  shown-head t zero l v text cost (ofInner hs) s = absurd (let e = s .entry in let z : _≡_ {A = ℕ} 0 1 = cc in omega arith)
-  shown-head t (suc c) l v text cost (ofLeaf u w) s = absurd (let e = s .entry in let z : _≡_ {A = ℕ} 0 1 = cc in omega arith)
-  shown-head t (suc c) l v text cost (ofInner hs) s =
+  shown-head t zero l v text (ofInner hs) s = absurd (let e = s .entry in let z : _≡_ {A = ℕ} 0 1 = cc in omega arith)
+  shown-head t (suc c) l v text (ofLeaf u w) s = absurd (let e = s .entry in let z : _≡_ {A = ℕ} 0 1 = cc in omega arith)
+  shown-head t (suc c) l v text (ofInner hs) s =
       let kinds : t ≡ 0 = inner-typed t (suc c) l (s .form) (omega arith) .0 in
       let texts : cond (eqb (suc c) 0) v text ≡ H (prelabel hs) = rw (ne-eqb (suc c) 0 (λ q. omega arith)) (s .label (omega arith)) in
       λ i. record { kind = kinds i; text = texts i }
 
-  pub shown-cost : (t c l : ℕ) (v text : List ℕ) (cost : ℕ) (f : Face) → Shows H t c l v text cost f → cond (eqb c 0) 0 cost ≡ costOfFace f
-  shown-cost t zero l v text cost (ofLeaf u w) s = refl
-  shown-cost t zero l v text cost (ofInner hs) s = absurd (let e = s .entry in let z : _≡_ {A = ℕ} 0 1 = cc in omega arith)
-  shown-cost t (suc c) l v text cost (ofLeaf u w) s = absurd (let e = s .entry in let z : _≡_ {A = ℕ} 0 1 = cc in omega arith)
-  shown-cost t (suc c) l v text cost (ofInner hs) s = rw (ne-eqb (suc c) 0 (λ q. omega arith)) (s .blocks (omega arith))
-
-  pub shown-bytes : (t c l : ℕ) (v text : List ℕ) (cost : ℕ) (f : Face) → Shows H t c l v text cost f → length v ≡ l → l ≡ bytesOfFace f
-  shown-bytes t zero l v text cost (ofLeaf u w) s q = let e = s .entry in let texts : v ≡ w = cc in sym q ∙ ap length texts
-  shown-bytes t zero l v text cost (ofInner hs) s q = absurd (let e = s .entry in let z : _≡_ {A = ℕ} 0 1 = cc in omega arith)
-  shown-bytes t (suc c) l v text cost (ofLeaf u w) s q = absurd (let e = s .entry in let z : _≡_ {A = ℕ} 0 1 = cc in omega arith)
-  shown-bytes t (suc c) l v text cost (ofInner hs) s q = inner-typed t (suc c) l (s .form) (omega arith) .1
+  pub shown-bytes : (t c l : ℕ) (v text : List ℕ) (f : Face) → Shows H t c l v text f → length v ≡ l → l ≡ bytesOfFace f
+  shown-bytes t zero l v text (ofLeaf u w) s q = let e = s .entry in let texts : v ≡ w = cc in sym q ∙ ap length texts
+  shown-bytes t zero l v text (ofInner hs) s q = absurd (let e = s .entry in let z : _≡_ {A = ℕ} 0 1 = cc in omega arith)
+  shown-bytes t (suc c) l v text (ofLeaf u w) s q = absurd (let e = s .entry in let z : _≡_ {A = ℕ} 0 1 = cc in omega arith)
+  shown-bytes t (suc c) l v text (ofInner hs) s q = inner-typed t (suc c) l (s .form) (omega arith) .1

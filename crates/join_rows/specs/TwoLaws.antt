@@ -23,16 +23,16 @@ pub some-size : (n : Node) → 0 < size n
 some-size (inner r) = omega arith
 some-size (leaf t v) = omega arith
 
-module _ (H : List ℕ → List ℕ) (a b : Node) (first : ℕ) (types counts lengths values labels costs : List ℕ)
-    (h : Two H a b first types counts lengths values labels costs) where
+module _ (H : List ℕ → List ℕ) (a b : Node) (first : ℕ) (types counts lengths values labels : List ℕ)
+    (h : Two H a b first types counts lengths values labels) where
   second-rows : length types - first ≡ size b
-  second-rows = sym (length-drop first types) ∙ table-long H b _ _ _ _ _ _ (h .two)
+  second-rows = sym (length-drop first types) ∙ table-long H b _ _ _ _ _ (h .two)
 
   pub first-low : first < length types
   first-low = omega (arith, second-rows, some-size b)
 
   pub first-rows : first ≡ size a
-  first-rows = sym (length-take-le first types (omega (arith, first-low))) ∙ table-long H a _ _ _ _ _ _ (h .one)
+  first-rows = sym (length-take-le first types (omega (arith, first-low))) ∙ table-long H a _ _ _ _ _ (h .one)
 
   pub all-rows : length types ≡ size a + size b
   all-rows = omega (arith, second-rows, first-low, first-rows)
@@ -47,15 +47,15 @@ module _ (H : List ℕ → List ℕ) (a b : Node) (first : ℕ) (types counts le
   abbrev RowShows : ℕ → Type 0
   RowShows x =
       Shows H (getD types x 0) (getD counts x 0) (getD lengths x 0) (take (getD lengths x 0) (drop (sum (take x lengths)) values))
-      (take labelBytes (drop (labelBytes * x) labels)) (getD costs x 0) (getD (faces H a ++ faces H b) x noFace)
+      (take labelBytes (drop (labelBytes * x) labels)) (getD (faces H a ++ faces H b) x noFace)
 
   first-shows : (x : ℕ) → x < first → RowShows x
   first-shows x q =
       let l : getD (take first lengths) x 0 ≡ getD lengths x 0 = getD-take first lengths x 0 q in
       let o : sum (take x (take first lengths)) ≡ sum (take x lengths) = ap sum (take-take x first lengths (omega arith)) in
-      shows-as (getD-take first types x 0 q) (getD-take first counts x 0 q) l (λ i. take (l i) (drop (o i) values)) refl refl
+      shows-as (getD-take first types x 0 q) (getD-take first counts x 0 q) l (λ i. take (l i) (drop (o i) values)) refl
       (sym (List·getD-append (faces H a) (faces H b) noFace x (omega (arith, length-faces H a, first-rows))))
-      (table-shows H a _ _ _ _ _ _ (h .one) x (omega (arith, length-take-le first types (omega (arith, first-low)))))
+      (table-shows H a _ _ _ _ _ (h .one) x (omega (arith, length-take-le first types (omega (arith, first-low)))))
 
   second-shows : (k : ℕ) → k < length types - first → RowShows (first + k)
   second-shows k q =
@@ -66,9 +66,9 @@ module _ (H : List ℕ → List ℕ) (a b : Node) (first : ℕ) (types counts le
       let z : drop (labelBytes * k) (drop (labelBytes * first) labels) ≡ drop (labelBytes * (first + k)) labels =
       drop-drop (labelBytes * k) (labelBytes * first) labels ∙ ap (λ (n : ℕ). drop n labels) (let e : labelBytes * first + labelBytes * k ≡ labelBytes * (first + k) = omega arith in e) in
       let f : length (faces H a) ≡ first = length-faces H a ∙ sym first-rows in
-      shows-as (getD-drop first types k 0) (getD-drop first counts k 0) l (λ i. take (l i) (o i)) (ap (take labelBytes) z) (getD-drop first costs k 0)
+      shows-as (getD-drop first types k 0) (getD-drop first counts k 0) l (λ i. take (l i) (o i)) (ap (take labelBytes) z)
       (sym (ap (λ (n : ℕ). getD (faces H a ++ faces H b) (n + k) noFace) (sym f) ∙ getD-append-add (faces H a) (faces H b) k noFace))
-      (table-shows H b _ _ _ _ _ _ (h .two) k (omega (arith, length-drop first types)))
+      (table-shows H b _ _ _ _ _ (h .two) k (omega (arith, length-drop first types)))
 
   pub row-shows : (x : ℕ) → x < length types → RowShows x
   row-shows x q = go (ltb x first) refl
@@ -112,11 +112,11 @@ module _ (H : List ℕ → List ℕ) (a b : Node) (first : ℕ) (types counts le
     pub two-reads : Reads H (faces H a ++ faces H b) types counts lengths values labels starts offsets
     two-reads =
         record {
-          counts-are = λ x q. shown-count H _ _ _ _ _ _ _ (row-shows x (low x q));
-          full = λ x q hs e. shown-full H _ _ _ _ _ _ hs (shows-as refl refl refl refl refl refl e (row-shows x (low x q)));
+          counts-are = λ x q. shown-count H _ _ _ _ _ _ (row-shows x (low x q));
+          full = λ x q hs e. shown-full H _ _ _ _ _ hs (shows-as refl refl refl refl refl e (row-shows x (low x q)));
           heads-are = λ x q.
               (λ i. record { kind = getD types x 0; text = cond (eqb (getD counts x 0) 0) (take (getD lengths x 0) (drop (here x q i) values)) (take labelBytes (drop (labelBytes * x) labels)) })
-              ∙ shown-head H _ _ _ _ _ _ _ (row-shows x (low x q));
+              ∙ shown-head H _ _ _ _ _ _ (row-shows x (low x q));
           starts-are = λ x q. g .started .are x (omega (arith, counts-long, low x q));
         }
       where

@@ -4,17 +4,15 @@ ghost use mathlib.Core.Path.{_≡_};
 ghost use mathlib.Core.List.{map};
 ghost use Prim.Native.Nat.{ℕ, _+_, _≤_, _<_};
 ghost use lib.ListN.{length, take, getD};
-ghost use Rattle.trees.specs.Rules.{maxNodes};
 ghost use Rattle.tables.specs.Tables.{sum};
 ghost use Rattle.join_rows.specs.Lists.{concat};
 ghost use Rattle.join_rows.specs.Columns.{valueAt};
-ghost use Rattle.join_rows.specs.Gathers.{cellOf, costAt, InRange, Gathering, Gathers};
+ghost use Rattle.join_rows.specs.Gathers.{cellOf, InRange, Gathering, Gathers};
 
-// How many rows and value bytes were gathered, and the blocks of the internal rows among them.
+// How many rows and value bytes were gathered.
 pub struct Gathered {
     pub rows: usize,
     pub used: usize,
-    pub blocks: usize,
 }
 
 // The cells of one column.
@@ -55,32 +53,6 @@ fn copy_values(
     used
 }
 
-// The blocks of a row itself.
-fn cost(counts: &[u16], costs: &[u16], row: usize) -> usize
-    requires { ⌜ (row < length (now counts)) × (row < length (now costs)) ⌝ }
-    ensures { λ r. ⌜ (r ≡ costAt (now (counts .entry)) (now (costs .entry)) row) × (r < 65536) ⌝ }
-{
-    if cell(counts, row) == 0 {
-        return 0;
-    }
-    cell(costs, row)
-}
-
-// The blocks of the rows named.
-fn blocks(plan: &[usize], counts: &[u16], costs: &[u16]) -> usize
-    requires { ⌜ InRange (now plan) (length (now counts)) × (length (now counts) ≤ length (now costs)) × (length (now plan) ≤ maxNodes) ⌝ }
-    ensures { λ r. ⌜ r ≡ sum (map (costAt (now (counts .entry)) (now (costs .entry))) (now (plan .entry))) ⌝ }
-{
-    let mut total = 0;
-    let mut k = 0;
-    while k < plan.len() {
-        let row = plan[k];
-        total += cost(counts, costs, row);
-        k += 1;
-    }
-    total
-}
-
 // The table of the rows that the plan names.
 pub fn gather(
     plan: &[usize],
@@ -88,24 +60,21 @@ pub fn gather(
     counts: &[u16],
     lengths: &[u16],
     values: &[u8],
-    costs: &[u16],
     offsets: &[usize],
     out_types: &mut [u16],
     out_counts: &mut [u16],
     out_lengths: &mut [u16],
     out_values: &mut [u8],
 ) -> Gathered
-    requires { ⌜ Gathering (now plan) (now types) (now counts) (now lengths) (now values) (now costs) (now offsets) (now «out_types») (now «out_counts») (now «out_lengths») (now «out_values») ⌝ }
-    ensures { λ r. ⌜ Gathers (now (plan .entry)) (now (types .entry)) (now (counts .entry)) (now (lengths .entry)) (now (values .entry)) (now (costs .entry)) (now (offsets .entry)) (now («out_types» .exit)) (now («out_counts» .exit)) (now («out_lengths» .exit)) (now («out_values» .exit)) r ⌝ }
+    requires { ⌜ Gathering (now plan) (now types) (now counts) (now lengths) (now values) (now offsets) (now «out_types») (now «out_counts») (now «out_lengths») (now «out_values») ⌝ }
+    ensures { λ r. ⌜ Gathers (now (plan .entry)) (now (types .entry)) (now (counts .entry)) (now (lengths .entry)) (now (values .entry)) (now (offsets .entry)) (now («out_types» .exit)) (now («out_counts» .exit)) (now («out_lengths» .exit)) (now («out_values» .exit)) r ⌝ }
 {
     copy_cells(plan, types, out_types);
     copy_cells(plan, counts, out_counts);
     copy_cells(plan, lengths, out_lengths);
     let used = copy_values(plan, lengths, values, offsets, out_values);
-    let total = blocks(plan, counts, costs);
     Gathered {
         rows: plan.len(),
         used,
-        blocks: total,
     }
 }

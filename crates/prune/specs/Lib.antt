@@ -1,4 +1,7 @@
 -- What pruning a slip answers and leaves.
 pub mod Prune
-pub mod PruneCallLaws
+-- What its parts ask and give.
+pub mod Contracts
+-- Theorems, and the laws behind them:
 pub mod PruneTheorems
+pub mod PruneCallLaws

@@ -12,20 +12,18 @@ use Rattle.trees.specs.Nodes.{Node, label}
 use Rattle.trees.specs.PruneLaws.{cut-label}
 use Rattle.trees.specs.Rows.{number, prunedRows}
 use Rattle.tables.specs.Refusals.{accepted, badList}
-use Rattle.tables.specs.Records.{Holds, named, firstFault}
-use Rattle.tables.specs.Tables.{entries}
+use Rattle.tables.specs.Records.{TreeTable, Holds, named, firstFault}
 use Rattle.prune_rows.specs.Marks.{children}
 use Rattle.prune_rows.specs.Contracts.{Written, Prunes, pruned}
 use Rattle.prune_rows.specs.PrunedLaws.{rows-pruned}
 use Rattle.prune_rows.specs.TableLaws.{entries-counts}
-use Rattle.sha2.specs.Sha256 as Sha256
 use Rattle.slips.specs.declared.answer.Answer.{Answer}
 use Rattle.slips.specs.Answers.{refused}
 use Rattle.slips.specs.Check.{readingOf, checkOf}
-use Rattle.slips.specs.Pack.{Packed, Packs}
-use Rattle.held.specs.SlipTree.{slipTree}
-use Rattle.held.specs.Sent.{Sendable, sent, sentTree}
-use Rattle.held.specs.Holding.{HoldsTree}
+use Rattle.slips.specs.Output.{Packed, Packs}
+use Rattle.slips.specs.SlipTree.{slipTree}
+use Rattle.slips.specs.Holding.{HoldsTree}
+use Rattle.send.specs.Sent.{sentTree}
 use Rattle.prune.specs.Prune.{prunedOf, pruneOf}
 
 -- an outcome by another name
@@ -68,37 +66,33 @@ module _ (H : List ℕ → List ℕ) (counts list out : List ℕ) (n : Node) whe
   unfolding prunedOf
   list-clean h = sym (rw (le-ltb (firstFault counts 0 0 list) (length list) h))
 
-module _ {s : List ℕ} {rows : ℕ} {types counts lengths values labels costs : List ℕ} (h : HoldsTree s rows types counts lengths values labels costs) where
+module _ {s : List ℕ} {rows : ℕ} {types counts lengths values labels : List ℕ} (h : HoldsTree s rows types counts lengths values labels) where
   -- the column of counts has what the entries name
   pub counts-held : take rows counts ≡ map children (readingOf s .rows)
   counts-held =
       sym (entries-counts (take rows types) (take rows counts) (take rows lengths) values (h .holds .counts-long) (h .holds .lengths-long))
       ∙ ap (map children) (h .holds .rows-are ∙ sym (h .reads-as .rows-are))
 
--- the table of the pruned tree can be sent, and is sent as that tree
-module _ {types counts lengths values labels costs list : List ℕ} {rows2 used count : ℕ} {types2 counts2 lengths2 values2 : List ℕ}
-    (p : Prunes types counts lengths values labels costs list rows2 used count types2 counts2 lengths2 values2)
-    (H : List ℕ → List ℕ) (n : Node) (h : Holds H n types counts lengths values labels costs) where
-  w : Written rows2 used types2 counts2 lengths2 values2 (prunedRows H (named list) 0 n)
-  w = p .table H n h
+-- the second table is that of the pruned tree
+module _ {types counts lengths values labels list : List ℕ} {rows2 used : ℕ} {types2 counts2 lengths2 values2 : List ℕ}
+    (p : Prunes types counts lengths values labels list rows2 used types2 counts2 lengths2 values2)
+    {H : List ℕ → List ℕ} {n : Node} (h : Holds H n types counts lengths values labels) where
+  pub written : Written rows2 used types2 counts2 lengths2 values2 (prunedRows H (named list) 0 n)
+  written = p .table H n h
 
-  long : length (take rows2 types2) ≡ rows2
-  long = length-take-le rows2 types2 (w .types-room)
-
-  pub sendable : Sendable (take rows2 types2) (take rows2 counts2) (take rows2 lengths2) (take used values2)
-  sendable =
+  pub pruned-table : TreeTable (pruned H list n) (take rows2 types2) (take rows2 counts2) (take rows2 lengths2) (take used values2)
+  pruned-table =
+      let w = written in
+      let long : length (take rows2 types2) ≡ rows2 = length-take-le rows2 types2 (w .types-room) in
       record {
-        columns =
-            record {
-              sameCounts = length-take-le rows2 counts2 (w .counts-room) ∙ sym long;
-              sameLengths = length-take-le rows2 lengths2 (w .lengths-room) ∙ sym long;
-              few = omega (arith, long, p .no-more, h .few);
-            };
-        form = w .formed ∙ sym long;
-        filled = omega (arith, w .sized, length-take-le used values2 (w .values-room));
+        counts-long = length-take-le rows2 counts2 (w .counts-room) ∙ sym long;
+        lengths-long = length-take-le rows2 lengths2 (w .lengths-room) ∙ sym long;
+        few = omega (arith, long, p .no-more, h .few);
+        formed = w .formed ∙ sym long;
+        area = omega (arith, w .sized, length-take-le used values2 (w .values-room));
+        rows-are = w .are ∙ sym (rows-pruned H list n);
       }
 
-  pub sent-pruned : {l : List ℕ} → l ≡ label H n → (out : List ℕ)
-      → sent (entries (take rows2 types2) (take rows2 counts2) (take rows2 lengths2) (take used values2)) count l out ≡ sentTree H (pruned H list n) out
-  sent-pruned e out =
-      rw (w .are ∙ sym (rows-pruned H list n), p .blocks-are H n h, e ∙ sym (cut-label H (λ q. named list (number n q)) n)) refl
+-- pruning keeps the root label
+pub root-kept : (H : List ℕ → List ℕ) (n : Node) (l list : List ℕ) → l ≡ label H n → l ≡ label H (pruned H list n)
+root-kept H n l list e = e ∙ sym (cut-label H (λ q. named list (number n q)) n)

@@ -32,12 +32,12 @@ use Rattle.prune_rows.specs.Width.{width, pruned-narrow}
 use Rattle.slips.specs.declared.answer.Answer.{Answer}
 use Rattle.slips.specs.Answers.{taken}
 use Rattle.slips.specs.Check.{readingOf, checkOf}
-use Rattle.slips.specs.Columns.{over}
-use Rattle.slips.specs.Pack.{Packed}
+use Rattle.slips.specs.Output.{over, Packed}
 use Rattle.slips.specs.SlipTrees.{SlipOf, slip-rows, check-complete}
-use Rattle.held.specs.SlipTree.{slipTree, slip-tree}
-use Rattle.held.specs.Sent.{sent, sentTree}
-use Rattle.held.specs.ByteTrees.{OfBytes, proper-back, proper-bytes, tree-proper, tree-slip, accepted-slip}
+use Rattle.slips.specs.SlipTree.{slipTree}
+use Rattle.slips.specs.SlipTreeLaws.{slip-tree}
+use Rattle.send.specs.Sent.{sent, sentTree}
+use Rattle.slips.specs.ByteTrees.{OfBytes, proper-back, proper-bytes, tree-proper, tree-slip, accepted-slip}
 use Rattle.prune.specs.Prune.{prunedOf, pruneOf}
 use Rattle.prune.specs.PruneCallLaws.{fault-none, prune-accepted, list-clean}
 

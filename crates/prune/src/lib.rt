@@ -1,58 +1,54 @@
 // The pruning of a slip.
-use held::hold;
-use held::send;
 use prune_rows::names;
 use prune_rows::rows;
 use slips::answer;
 use slips::answer::Answer;
-use slips::areas::Full;
-use slips::areas::Small;
 use slips::header;
+use slips::open;
+use tables::areas::Full;
+use tables::areas::Small;
 use tables::limits::Slip;
 use tables::refusals::Refusal;
+ghost use Prim.Native.Nat.{_+_, _*_, _≤_};
+ghost use lib.ListN.{length};
+ghost use mathlib.Core.Path.{_≡_};
 ghost use Rattle.sha2.specs.Sha256 as Sha256;
 ghost use Rattle.titles.specs.Compose.{composedText};
 ghost use Rattle.trees.specs.Rules.{maxBytes, maxNodes};
-ghost use mathlib.Core.Path.{_≡_};
+ghost use Rattle.tables.specs.Areas.{smallBytes, smallNodes};
 ghost use Rattle.tables.specs.Refusals.{accepted};
 ghost use Rattle.slips.specs.Check.{headerOf};
-ghost use Rattle.slips.specs.Opening.{Counted, smallBytes, smallNodes};
-ghost use Rattle.slips.specs.Pack.{Packs};
-ghost use Rattle.prune.specs.Prune.{Cuttable, Cuts, Areas, pruneOf};
+ghost use Rattle.slips.specs.Opening.{Counted};
+ghost use Rattle.slips.specs.Output.{Packs};
+ghost use Rattle.prune_rows.specs.Contracts.{Roomy};
+ghost use Rattle.prune.specs.Prune.{pruneOf};
+ghost use Rattle.prune.specs.Contracts.{PruneAsks, CutAsks, CutGives, CleanAsks, CleanGives};
 
-// Prunes the tree that a table holds, whose label is told, and sends its slip.
-fn cut(
+// Prunes a table by a list without fault in lent areas, and sends the pruned tree's slip.
+fn send_pruned(
     types: &[u16],
     counts: &[u16],
     lengths: &[u16],
     values: &[u8],
     labels: &[u8],
-    costs: &[u16],
     list: &[u16],
-    label: [u8; 32],
-    marks: &mut [u8],
+    label: [u8; Slip::LABEL_BYTES],
     types2: &mut [u16],
     counts2: &mut [u16],
     lengths2: &mut [u16],
     values2: &mut [u8],
     out: &mut [u8],
 ) -> Answer
-    requires { ⌜ Cuttable (now types) (now counts) (now lengths) (now values) (now labels) (now costs) (now marks) (now types2) (now counts2) (now lengths2) (now values2) label ⌝ }
-    ensures { λ r. ⌜ Cuts (now (types .entry)) (now (counts .entry)) (now (lengths .entry)) (now (values .entry)) (now (labels .entry)) (now (costs .entry)) (now (list .entry)) label (now (out .entry)) r (now (out .exit)) ⌝ }
+    requires { ⌜ CleanAsks (now types) (now counts) (now lengths) (now values) (now labels) (now list) × Roomy (now types) (now lengths) (now types2) (now counts2) (now lengths2) (now values2) ⌝ }
+    ensures { λ r. ⌜ CleanGives (now (types .entry)) (now (counts .entry)) (now (lengths .entry)) (now (values .entry)) (now (labels .entry)) (now (list .entry)) label (now (out .entry)) r (now (out .exit)) ⌝ }
 {
-    let bad = names::first_fault(list, counts);
-    if bad < list.len() {
-        return answer::refused(Refusal::BAD_LIST, bad);
-    }
     let p = rows::prune_rows(
         types,
         counts,
         lengths,
         values,
         labels,
-        costs,
         list,
-        marks,
         types2,
         counts2,
         lengths2,
@@ -60,18 +56,111 @@ fn cut(
     );
     let left = p.rows;
     let used = p.used;
-    send::send(
+    send::send_tree(
         &types2[..left],
         &counts2[..left],
         &lengths2[..left],
         &values2[..used],
-        p.blocks,
         label,
         out,
     )
 }
 
-// Prunes a slip whose header is taken, in lent areas. The second columns are the check's stack first, and its work area holds the marks.
+// In areas for the table of a small slip.
+fn cut_small(
+    types: &[u16],
+    counts: &[u16],
+    lengths: &[u16],
+    values: &[u8],
+    labels: &[u8],
+    list: &[u16],
+    label: [u8; Slip::LABEL_BYTES],
+    out: &mut [u8],
+) -> Answer
+    requires { ⌜ CleanAsks (now types) (now counts) (now lengths) (now values) (now labels) (now list) × (length (now types) ≤ smallNodes) × (length (now values) ≤ smallBytes) ⌝ }
+    ensures { λ r. ⌜ CleanGives (now (types .entry)) (now (counts .entry)) (now (lengths .entry)) (now (values .entry)) (now (labels .entry)) (now (list .entry)) label (now (out .entry)) r (now (out .exit)) ⌝ }
+{
+    let mut types2 = [0u16; Small::NODES];
+    let mut counts2 = [0u16; Small::NODES];
+    let mut lengths2 = [0u16; Small::NODES];
+    let mut values2 = [0u8; Small::BYTES + Small::LABELS];
+    send_pruned(
+        types,
+        counts,
+        lengths,
+        values,
+        labels,
+        list,
+        label,
+        &mut types2,
+        &mut counts2,
+        &mut lengths2,
+        &mut values2,
+        out,
+    )
+}
+
+// In areas for any.
+fn cut_large(
+    types: &[u16],
+    counts: &[u16],
+    lengths: &[u16],
+    values: &[u8],
+    labels: &[u8],
+    list: &[u16],
+    label: [u8; Slip::LABEL_BYTES],
+    out: &mut [u8],
+) -> Answer
+    requires { ⌜ CleanAsks (now types) (now counts) (now lengths) (now values) (now labels) (now list) ⌝ }
+    ensures { λ r. ⌜ CleanGives (now (types .entry)) (now (counts .entry)) (now (lengths .entry)) (now (values .entry)) (now (labels .entry)) (now (list .entry)) label (now (out .entry)) r (now (out .exit)) ⌝ }
+{
+    let mut types2 = [0u16; Slip::MAX_NODES];
+    let mut counts2 = [0u16; Slip::MAX_NODES];
+    let mut lengths2 = [0u16; Slip::MAX_NODES];
+    let mut values2 = [0u8; Slip::MAX_BYTES + Full::LABELS];
+    send_pruned(
+        types,
+        counts,
+        lengths,
+        values,
+        labels,
+        list,
+        label,
+        &mut types2,
+        &mut counts2,
+        &mut lengths2,
+        &mut values2,
+        out,
+    )
+}
+
+// "12, 11", or the slip of the tree that the table holds, pruned; its root label is told.
+fn cut(
+    types: &[u16],
+    counts: &[u16],
+    lengths: &[u16],
+    values: &[u8],
+    labels: &[u8],
+    list: &[u16],
+    label: [u8; Slip::LABEL_BYTES],
+    out: &mut [u8],
+) -> Answer
+    requires { ⌜ CutAsks (now types) (now counts) (now lengths) (now values) (now labels) ⌝ }
+    ensures { λ r. ⌜ CutGives (now (types .entry)) (now (counts .entry)) (now (lengths .entry)) (now (values .entry)) (now (labels .entry)) (now (list .entry)) label (now (out .entry)) r (now (out .exit)) ⌝ }
+{
+    let bad = names::first_fault(list, counts);
+    if bad < list.len() {
+        return answer::refused(Refusal::BAD_LIST, bad);
+    }
+    if types.len() <= Small::NODES {
+        if values.len() <= Small::BYTES {
+            return cut_small(types, counts, lengths, values, labels, list, label, out);
+        }
+    }
+    cut_large(types, counts, lengths, values, labels, list, label, out)
+}
+
+// Prunes a slip whose header is taken, in lent areas.
 fn prune_in(
     s: &[u8],
     n: usize,
@@ -80,32 +169,13 @@ fn prune_in(
     counts: &mut [u16],
     lengths: &mut [u16],
     values: &mut [u8],
-    types2: &mut [u16],
-    counts2: &mut [u16],
-    lengths2: &mut [u16],
-    work: &mut [u8],
     labels: &mut [u8],
-    costs: &mut [u16],
-    values2: &mut [u8],
     out: &mut [u8],
 ) -> Answer
-    requires { ⌜ Areas (now s) n (now types) (now counts) (now lengths) (now values) (now types2) (now counts2) (now lengths2) (now work) (now labels) (now costs) (now values2) × (headerOf (now s) .number ≡ accepted) ⌝ }
+    requires { ⌜ PruneAsks (now s) n (now types) (now counts) (now lengths) (now values) (now labels) ⌝ }
     ensures { λ r. ⌜ Packs (pruneOf Sha256.label composedText (now (s .entry)) (now (list .entry)) (now (out .entry))) r (now (out .exit)) ⌝ }
 {
-    let o = hold::hold(
-        s,
-        n,
-        types,
-        counts,
-        lengths,
-        values,
-        types2,
-        counts2,
-        lengths2,
-        work,
-        labels,
-        costs,
-    );
+    let o = open::open_in(s, n, types, counts, lengths, values, labels);
     let a = o.answer;
     if a.number != Refusal::ACCEPTED {
         return a;
@@ -118,14 +188,8 @@ fn prune_in(
         &lengths[..rows],
         values,
         labels,
-        costs,
         list,
         label,
-        work,
-        types2,
-        counts2,
-        lengths2,
-        values2,
         out,
     )
 }
@@ -139,13 +203,7 @@ fn small(s: &[u8], n: usize, list: &[u16], out: &mut [u8]) -> Answer
     let mut counts = [0u16; Small::NODES];
     let mut lengths = [0u16; Small::NODES];
     let mut values = [0u8; Small::BYTES];
-    let mut types2 = [0u16; Small::NODES];
-    let mut counts2 = [0u16; Small::NODES];
-    let mut lengths2 = [0u16; Small::NODES];
-    let mut work = [0u8; Small::WORK];
     let mut labels = [0u8; Small::LABELS];
-    let mut costs = [0u16; Small::NODES];
-    let mut values2 = [0u8; Small::BYTES + Small::LABELS];
     prune_in(
         s,
         n,
@@ -154,13 +212,7 @@ fn small(s: &[u8], n: usize, list: &[u16], out: &mut [u8]) -> Answer
         &mut counts,
         &mut lengths,
         &mut values,
-        &mut types2,
-        &mut counts2,
-        &mut lengths2,
-        &mut work,
         &mut labels,
-        &mut costs,
-        &mut values2,
         out,
     )
 }
@@ -174,13 +226,7 @@ fn large(s: &[u8], n: usize, list: &[u16], out: &mut [u8]) -> Answer
     let mut counts = [0u16; Slip::MAX_NODES];
     let mut lengths = [0u16; Slip::MAX_NODES];
     let mut values = [0u8; Slip::MAX_BYTES];
-    let mut types2 = [0u16; Slip::MAX_NODES];
-    let mut counts2 = [0u16; Slip::MAX_NODES];
-    let mut lengths2 = [0u16; Slip::MAX_NODES];
-    let mut work = [0u8; Full::WORK];
     let mut labels = [0u8; Full::LABELS];
-    let mut costs = [0u16; Slip::MAX_NODES];
-    let mut values2 = [0u8; Slip::MAX_BYTES + Full::LABELS];
     prune_in(
         s,
         n,
@@ -189,13 +235,7 @@ fn large(s: &[u8], n: usize, list: &[u16], out: &mut [u8]) -> Answer
         &mut counts,
         &mut lengths,
         &mut values,
-        &mut types2,
-        &mut counts2,
-        &mut lengths2,
-        &mut work,
         &mut labels,
-        &mut costs,
-        &mut values2,
         out,
     )
 }

@@ -10,7 +10,7 @@ use Rattle.trees.specs.Rules.{labelBytes}
 use Rattle.trees.specs.Rows.{Entry, tip}
 use Rattle.tables.specs.Tables.{entryOf, entries, sum}
 use Rattle.tables.specs.TablesLaws.{sum-append, length-entries}
-use Rattle.prune_rows.specs.Picked.{picked, rowBy, costBy, labelRows}
+use Rattle.prune_rows.specs.Picked.{picked, rowBy, labelRows}
 use Rattle.prune_rows.specs.PickedLaws.{picked-step, picked-none, length-label-rows, label-rows-at}
 use Rattle.prune_rows.specs.TableLaws.{entries-at, row-fits}
 use Rattle.prune_rows.specs.Contracts.{Written}
@@ -42,42 +42,36 @@ value-part values at l k e =
     ap (λ (j : ℕ). take j (drop at values)) f
 
 -- the rows before row i are picked: what they gave, and what the others will give
-pub record Going (lengths : List ℕ) (es : List Entry) (xs : List (List ℕ)) (costs marks : List ℕ) (i at rows used count : ℕ) (ts cs ls vs : List ℕ) : Type 0 where
+pub record Going (lengths : List ℕ) (es : List Entry) (xs : List (List ℕ)) (marks : List ℕ) (i at rows used : ℕ) (ts cs ls vs : List ℕ) : Type 0 where
   pub at-is : at ≡ sum (take i lengths)
   pub rows-low : rows ≤ i
   pub used-low : used ≤ at + labelBytes * i
-  pub count-low : count ≤ 65535 * i
   pub so-far : List Entry
   pub written : Written rows used ts cs ls vs so-far
   pub left :
       picked rowBy marks es xs
       ≡ so-far ++ picked rowBy (drop i marks) (drop i es) (drop i xs)
-  pub cost-left :
-      sum (picked costBy marks es costs)
-      ≡ count + sum (picked costBy (drop i marks) (drop i es) (drop i costs))
 
-module _ (types counts lengths values labels costs marks : List ℕ) (ready : Pickable types counts lengths values labels costs marks) where
+module _ {types counts lengths values labels marks : List ℕ} (ready : Pickable types counts lengths values labels marks) where
   abbrev es : List Entry
   es = entries types counts lengths values
 
   abbrev xs : List (List ℕ)
   xs = labelRows (length types) labels
 
-  pub going-none : (ts cs ls vs : List ℕ) → Going lengths es xs costs marks 0 0 0 0 0 ts cs ls vs
+  pub going-none : (ts cs ls vs : List ℕ) → Going lengths es xs marks 0 0 0 0 ts cs ls vs
   unfolding sum
   going-none ts cs ls vs =
       record {
         at-is = refl;
         rows-low = omega arith;
         used-low = omega arith;
-        count-low = omega arith;
         so-far = [];
         written = written-none ts cs ls vs;
         left = refl;
-        cost-left = omega arith;
       }
 
-  module _ (i at rows used count : ℕ) (ts cs ls vs : List ℕ) (g : Going lengths es xs costs marks i at rows used count ts cs ls vs)
+  module _ {i at rows used : ℕ} {ts cs ls vs : List ℕ} (g : Going lengths es xs marks i at rows used ts cs ls vs)
       (here : i < length types) (marked : i < length marks) where
     l-here : i < length lengths
     l-here = omega (arith, ready .lengths-long)
@@ -123,21 +117,19 @@ module _ (types counts lengths values labels costs marks : List ℕ) (ready : Pi
       e-here = omega (arith, length-entries types counts lengths values (ready .counts-long) (ready .lengths-long))
 
       pub going-more :
-          (next rows′ used′ count′ : ℕ) (ts′ cs′ ls′ vs′ : List ℕ)
+          {next rows′ used′ : ℕ} {ts′ cs′ ls′ vs′ : List ℕ}
           → next ≡ at + getD lengths i 0
-          → Turn (getD marks i 0) (getD lengths i 0) (entryOf (getD types i 0) (getD counts i 0) v) label (getD costs i 0) rows used count ts cs ls vs
-          rows′ used′ count′ ts′ cs′ ls′ vs′
-          → Going lengths es xs costs marks (i + 1) next rows′ used′ count′ ts′ cs′ ls′ vs′
-      going-more next rows′ used′ count′ ts′ cs′ ls′ vs′ n turn =
+          → Turn (getD marks i 0) (getD lengths i 0) (entryOf (getD types i 0) (getD counts i 0) v) label rows used ts cs ls vs
+          rows′ used′ ts′ cs′ ls′ vs′
+          → Going lengths es xs marks (i + 1) next rows′ used′ ts′ cs′ ls′ vs′
+      going-more n turn =
           let m : ℕ = getD marks i 0 in
           let e : Entry = entryOf (getD types i 0) (getD counts i 0) v in
           let l-rows : i < length xs = omega (arith, length-label-rows (length types) labels) in
-          let c-rows : i < length costs = omega (arith, ready .costs-room) in
           record {
             at-is = omega (arith, g .at-is, sum-front lengths i l-here);
             rows-low = omega (arith, g .rows-low, turn .row);
             used-low = omega (arith, g .used-low, turn .bytes);
-            count-low = omega (arith, g .count-low, turn .cost-low);
             so-far = g .so-far ++ rowBy m e label;
             written = turn .adds (g .so-far) (g .written);
             left =
@@ -146,28 +138,19 @@ module _ (types counts lengths values labels costs marks : List ℕ) (ready : Pi
                 (picked-step rowBy (tip 0 []) [] marks es xs i marked e-here l-rows
                 ∙ (λ k. rowBy m (entry-is k) (label-at k) ++ picked rowBy (drop (i + 1) marks) (drop (i + 1) es) (drop (i + 1) xs)))
                 ∙ sym (append-assoc (g .so-far) (rowBy m e label) (picked rowBy (drop (i + 1) marks) (drop (i + 1) es) (drop (i + 1) xs)));
-            cost-left =
-                let rest : List ℕ = picked costBy (drop (i + 1) marks) (drop (i + 1) es) (drop (i + 1) costs) in
-                let step : sum (picked costBy (drop i marks) (drop i es) (drop i costs)) ≡ sum (costBy m e (getD costs i 0) ++ rest) =
-                ap sum (picked-step costBy (tip 0 []) 0 marks es costs i marked e-here c-rows
-                ∙ (λ k. costBy m (entry-is k) (getD costs i 0) ++ rest)) in
-                omega (arith, g .cost-left, step, sum-append (costBy m e (getD costs i 0)) rest, turn .cost-is);
           }
 
   pub going-all :
-      (i at rows used count : ℕ) (ts cs ls vs : List ℕ)
+      {i at rows used : ℕ} {ts cs ls vs : List ℕ}
       → length types ≤ i
       → i ≤ length types
-      → Going lengths es xs costs marks i at rows used count ts cs ls vs
-      → Picks types counts lengths values labels costs marks rows used count ts cs ls vs
-  unfolding sum
-  going-all i at rows used count ts cs ls vs h k g =
+      → Going lengths es xs marks i at rows used ts cs ls vs
+      → Picks types counts lengths values labels marks rows used ts cs ls vs
+  going-all {i} {rows = rows} {used} {ts} {cs} {ls} {vs} h k g =
       let past : drop i es ≡ [] =
       drop-of-length-le es {i = i} (omega (arith, length-entries types counts lengths values (ready .counts-long) (ready .lengths-long))) in
       record {
         no-more = omega (arith, g .rows-low);
         table = subst (Written rows used ts cs ls vs) (sym (g .left ∙ ap (λ (x : List Entry). g .so-far ++ picked rowBy (drop i marks) x (drop i xs)) past
             ∙ ap (λ (x : List Entry). g .so-far ++ x) (picked-none rowBy (drop i marks) (drop i xs)) ∙ append-nil (g .so-far))) (g .written);
-        cost = sym (g .cost-left ∙ ap (λ (x : List Entry). count + sum (picked costBy (drop i marks) x (drop i costs))) past
-            ∙ ap (λ (x : List ℕ). count + sum x) (picked-none costBy (drop i marks) (drop i costs)) ∙ omega arith);
       }

@@ -8,11 +8,11 @@ use Rattle.trees.specs.Rows.{prunedRows}
 use Rattle.tables.specs.Records.{Holds, named}
 use Rattle.prune_rows.specs.Contracts.{Written, Prunable, Prunes}
 use Rattle.prune_rows.specs.Steps.{Pickable, Picks}
-use Rattle.prune_rows.specs.PrunedLaws.{Marked, marked-inner, picked-table, picked-blocks, pruned-some, written-rows}
+use Rattle.prune_rows.specs.PrunedLaws.{Marked, marked-inner, picked-table, pruned-some, written-rows}
 
-module _ (types counts lengths values labels costs list marks : List ℕ) (able : Prunable types counts lengths values labels costs list)
+module _ {types counts lengths values labels list marks : List ℕ} (able : Prunable types counts lengths values labels list)
     (marked : Marked list counts marks) where
-  pub pickable : Pickable types counts lengths values labels costs marks
+  pub pickable : Pickable types counts lengths values labels marks
   pickable =
       let h = able .holds in
       record {
@@ -22,20 +22,18 @@ module _ (types counts lengths values labels costs list marks : List ℕ) (able 
         formed = h .formed;
         area = h .area;
         labels-room = h .labels-room;
-        costs-room = h .costs-room;
         cuts = λ k l. marked-inner list counts marks (able .clean) marked k (omega (arith, h .counts-long));
       }
 
   pub prunes :
-      (rows used count : ℕ) (ts cs ls vs : List ℕ)
-      → Picks types counts lengths values labels costs marks rows used count ts cs ls vs
-      → Prunes types counts lengths values labels costs list rows used count ts cs ls vs
-  prunes rows used count ts cs ls vs p =
-      record { some-row = some; no-more = p .no-more; table = table; blocks-are = λ H n h. p .cost ∙ picked-blocks H n types counts lengths values labels costs list marks h marked }
+      {rows used : ℕ} {ts cs ls vs : List ℕ}
+      → Picks types counts lengths values labels marks rows used ts cs ls vs
+      → Prunes types counts lengths values labels list rows used ts cs ls vs
+  prunes {rows} {used} {ts} {cs} {ls} {vs} p = record { some-row = some; no-more = p .no-more; table = table }
     where
-      table : (H : List ℕ → List ℕ) (n : Node) → Holds H n types counts lengths values labels costs
+      table : (H : List ℕ → List ℕ) (n : Node) → Holds H n types counts lengths values labels
           → Written rows used ts cs ls vs (prunedRows H (named list) 0 n)
-      table H n h = subst (Written rows used ts cs ls vs) (picked-table H n types counts lengths values labels costs list marks h marked) (p .table)
+      table H n h = subst (Written rows used ts cs ls vs) (picked-table H n types counts lengths values labels list marks h marked) (p .table)
 
       some : 1 ≤ rows
       some =

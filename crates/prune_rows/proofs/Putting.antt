@@ -13,7 +13,6 @@ use Rattle.lists.specs.Lists.{one-more}
 use Rattle.tables.specs.TablesLaws.{sum-append}
 use Rattle.prune_rows.specs.TableLaws.{entries-append, formed-more}
 use Rattle.prune_rows.specs.Marks.{gone, kept}
-use Rattle.prune_rows.specs.Picked.{costBy}
 use Rattle.prune_rows.specs.Contracts.{Written}
 use Rattle.prune_rows.specs.Steps.{Puts, Adds, Added, Turn}
 
@@ -67,68 +66,46 @@ module _ (t c l rows used : ℕ) (part ts cs ls vs last : List ℕ) (p : Puts t 
             ∙ ap₂ (λ (x : List Entry) (y : List ℕ). x ++ (entryOf t c y ∷ [])) (w .are) (take-all l part (omega (arith, p .long)));
       }
 
--- the blocks of a kept row
-pub leaf-free : (c cost t : ℕ) (v : List ℕ) → c ≡ 0 → 0 ≡ sum (costBy kept (entryOf t c v) cost)
-unfolding sum
-leaf-free zero cost t v e = refl
-leaf-free (suc c) cost t v e = absurd (omega arith)
-
-pub node-costs : (c cost t : ℕ) (v : List ℕ) → (c ≡ 0 → ⊥) → cost ≡ sum (costBy kept (entryOf t c v) cost)
-unfolding sum
-node-costs zero cost t v e = absurd (e refl)
-node-costs (suc c) cost t v e = omega arith
-
-free : (n : ℕ) → n ≡ n + sum []
-unfolding sum
-free n = omega arith
-
 past-one : (m : ℕ) → (m ≡ 0 → ⊥) → (m ≡ 1 → ⊥) → 1 < m
 past-one zero p q = absurd (p refl)
 past-one (suc zero) p q = absurd (q refl)
 past-one (suc (suc m)) p q = omega arith
 
 -- one row of the first table
-module _ (mark l cost rows used count : ℕ) (label ts cs ls vs : List ℕ) where
+module _ (mark l rows used : ℕ) (label ts cs ls vs : List ℕ) where
   -- that is gone
-  pub turn-gone : (e : Entry) → mark ≡ gone → Turn mark l e label cost rows used count ts cs ls vs rows used count ts cs ls vs
-  unfolding sum
+  pub turn-gone : (e : Entry) → mark ≡ gone → Turn mark l e label rows used ts cs ls vs rows used ts cs ls vs
   turn-gone e p =
       record {
         row = omega arith;
         bytes = omega arith;
-        cost-is = rw p (omega arith);
-        cost-low = omega arith;
         adds = λ es w. rw (p, append-nil) w;
       }
 
-  module _ (rows′ used′ count′ : ℕ) (ts′ cs′ ls′ vs′ : List ℕ) where
+  module _ (rows′ used′ : ℕ) (ts′ cs′ ls′ vs′ : List ℕ) where
     -- that is kept
-    pub turn-kept : (e : Entry) (own : ℕ) → mark ≡ kept → own < 65536 → own ≡ sum (costBy kept e cost)
-        → Added e l own rows used count ts cs ls vs rows′ used′ count′ ts′ cs′ ls′ vs′
-        → Turn mark l e label cost rows used count ts cs ls vs rows′ used′ count′ ts′ cs′ ls′ vs′
-    turn-kept e own p low is a =
+    pub turn-kept : (e : Entry) → mark ≡ kept
+        → Added e l rows used ts cs ls vs rows′ used′ ts′ cs′ ls′ vs′
+        → Turn mark l e label rows used ts cs ls vs rows′ used′ ts′ cs′ ls′ vs′
+    turn-kept e p a =
         record {
           row = omega (arith, a .row);
           bytes = omega (arith, a .bytes);
-          cost-is = rw p (a .cost ∙ ap (λ (k : ℕ). count + k) is);
-          cost-low = omega (arith, a .cost);
           adds = rw p (a .adds);
         }
 
     -- that is cut off
     pub turn-cut : (t c : ℕ) (v : List ℕ) → (mark ≡ gone → ⊥) → (mark ≡ kept → ⊥) → (1 < mark → 0 < c)
-        → Added (entryOf 0 0 label) labelBytes 0 rows used count ts cs ls vs rows′ used′ count′ ts′ cs′ ls′ vs′
-        → Turn mark l (entryOf t c v) label cost rows used count ts cs ls vs rows′ used′ count′ ts′ cs′ ls′ vs′
+        → Added (entryOf 0 0 label) labelBytes rows used ts cs ls vs rows′ used′ ts′ cs′ ls′ vs′
+        → Turn mark l (entryOf t c v) label rows used ts cs ls vs rows′ used′ ts′ cs′ ls′ vs′
     turn-cut t c v p q inner a = go mark (past-one mark p q) c (inner (past-one mark p q))
       where
         go : (m : ℕ) → 1 < m → (c : ℕ) → 0 < c
-            → Turn m l (entryOf t c v) label cost rows used count ts cs ls vs rows′ used′ count′ ts′ cs′ ls′ vs′
+            → Turn m l (entryOf t c v) label rows used ts cs ls vs rows′ used′ ts′ cs′ ls′ vs′
         go (suc (suc m)) h (suc c) i =
             record {
               row = omega (arith, a .row);
               bytes = omega (arith, a .bytes);
-              cost-is = omega (arith, a .cost, free count);
-              cost-low = omega (arith, a .cost);
               adds = a .adds;
             }
         go (suc (suc m)) h zero i = absurd (omega arith)

@@ -3,7 +3,7 @@ use Prim.Native.Nat.{ℕ, _+_, _*_, _≤_}
 use mathlib.Core.Path.{_≡_}
 use mathlib.Core.List.{List}
 use lib.ListN.{length, take}
-use Rattle.trees.specs.Nodes.{Node, blocks}
+use Rattle.trees.specs.Nodes.{Node}
 use Rattle.trees.specs.Rules.{labelBytes}
 use Rattle.trees.specs.Places.{cut}
 use Rattle.trees.specs.Rows.{Entry, rows, number, prunedRows}
@@ -25,29 +25,24 @@ abbrev pub pruned : (List ℕ → List ℕ) → List ℕ → Node → Node
 pruned H list n = cut H (λ p. named list (number n p)) n
 
 -- a table that holds a tree, and a list without fault
-pub record Prunable (types counts lengths values labels costs list : List ℕ) : Type 0 where
+pub record Prunable (types counts lengths values labels list : List ℕ) : Type 0 where
   pub H : List ℕ → List ℕ
   pub n : Node
-  pub holds : Holds H n types counts lengths values labels costs
+  pub holds : Holds H n types counts lengths values labels
   pub clean : firstFault counts 0 0 list ≡ length list
 
--- the second table and the marks have room
-pub record Roomy (types lengths marks types2 counts2 lengths2 values2 : List ℕ) : Type 0 where
-  pub marks-room : length types ≤ length marks
+-- the second table has room
+pub record Roomy (types lengths types2 counts2 lengths2 values2 : List ℕ) : Type 0 where
   pub types-room : length types ≤ length types2
   pub counts-room : length types ≤ length counts2
   pub lengths-room : length types ≤ length lengths2
   pub values-room : sum lengths + labelBytes * length types ≤ length values2
 
 -- whatever tree the table holds, the second table is that of the pruned tree
-pub record Prunes (types counts lengths values labels costs list : List ℕ) (rows used count : ℕ) (types2 counts2 lengths2 values2 : List ℕ) : Type 0 where
+pub record Prunes (types counts lengths values labels list : List ℕ) (rows used : ℕ) (types2 counts2 lengths2 values2 : List ℕ) : Type 0 where
   pub some-row : 1 ≤ rows
   pub no-more : rows ≤ length types
   pub table :
       (H : List ℕ → List ℕ) (n : Node)
-      → Holds H n types counts lengths values labels costs
+      → Holds H n types counts lengths values labels
       → Written rows used types2 counts2 lengths2 values2 (prunedRows H (named list) 0 n)
-  pub blocks-are :
-      (H : List ℕ → List ℕ) (n : Node)
-      → Holds H n types counts lengths values labels costs
-      → count ≡ blocks H (pruned H list n)

@@ -3,13 +3,13 @@ use mathlib.Core.Path.{_≡_, refl}
 use mathlib.Core.List.{List, [], _∷_, map}
 use Prim.Native.Nat.{ℕ}
 use lib.ListN.{length}
-use Rattle.trees.specs.Nodes.{Node, inner, leaf, nil, cons, blocks}
+use Rattle.trees.specs.Nodes.{Node, inner, leaf, nil, cons}
 use Rattle.trees.specs.Rows.{node, tip, rows, prunedRows}
-use Rattle.trees.specs.RowLabels.{labelsOf, costsOf}
+use Rattle.trees.specs.RowLabels.{labelsOf}
 use Rattle.tables.specs.Records.{named, firstFault}
 use Rattle.prune_rows.specs.Contracts.{pruned}
 use Rattle.prune_rows.specs.Marks.{gone, kept, cutOff, children, atEnd, walk, marksOf}
-use Rattle.prune_rows.specs.Picked.{picked, rowBy, costBy}
+use Rattle.prune_rows.specs.Picked.{picked, rowBy}
 use Rattle.prune_rows.specs.Width.{width}
 
 -- a label that is the prelabel's length alone
@@ -43,15 +43,6 @@ rows-3 = refl
 pub pruned-3 : rows (pruned short (3 ∷ []) small) ≡ prunedRows short (named (3 ∷ [])) 0 small
 unfolding named
 pruned-3 = refl
-
--- the root's one block stays, the block of row 3 goes
-pub blocks-3 : blocks short (pruned short (3 ∷ []) small) ≡ 1
-unfolding named
-blocks-3 = refl
-
-pub costs-3 : picked costBy (marksOf (named (3 ∷ [])) 0 small) (rows small) (costsOf short small) ≡ 1 ∷ []
-unfolding named
-costs-3 = refl
 
 -- a list without fault; "not rising, out of range, or not an internal node", each at its index
 pub fault-none : firstFault counts 0 0 (3 ∷ 4 ∷ []) ≡ 2

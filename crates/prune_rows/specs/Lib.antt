@@ -14,5 +14,3 @@ pub mod MarksLaws
 pub mod PickedLaws
 pub mod PickedTrees
 pub mod TableLaws
-
--- Laws of plain lists:

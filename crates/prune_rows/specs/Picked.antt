@@ -1,4 +1,4 @@
--- The rows that marks pick from a table, and the blocks of those that stay.
+-- The rows that marks pick from a table.
 use Prim.Native.Nat.{ℕ, zero, suc}
 use mathlib.Core.List.{List, [], _∷_, _++_}
 use lib.ListN.{take, drop}
@@ -18,13 +18,6 @@ rowBy zero e l = []
 rowBy (suc zero) e l = e ∷ []
 rowBy (suc (suc k)) (node c) l = tip 0 l ∷ []
 rowBy (suc (suc k)) (tip t v) l = tip t v ∷ []
-
--- "the internal nodes present": a kept internal row gives its blocks
-abbrev pub costBy : ℕ → Entry → ℕ → List ℕ
-costBy zero e b = []
-costBy (suc zero) (node k) b = b ∷ []
-costBy (suc zero) (tip t v) b = []
-costBy (suc (suc k)) e b = []
 
 -- the labels of k rows, end to end in one area
 abbrev pub labelRows : ℕ → List ℕ → List (List ℕ)

@@ -1,4 +1,4 @@
--- Pruning a table that holds a tree gives the pruned tree's rows, labels and blocks.
+-- Pruning a table that holds a tree gives the pruned tree's rows and labels.
 use Prim.Native.Nat.{ℕ, zero, suc, _+_, _≤_, _<_}
 use mathlib.Core.Path.{_≡_, refl, sym, ap, _∙_}
 use mathlib.Core.List.{List, [], map, append-nil}
@@ -6,39 +6,33 @@ use native.Mathlib.Nat.{zero-add}
 use native.Mathlib.Omega.{arith}
 use lib.ListN.{length, take, drop, getD}
 use lib.Seq.{getD-take, length-take-le}
-use Rattle.trees.specs.Nodes.{Node, inner, leaf, size, blocks}
+use Rattle.trees.specs.Nodes.{Node, inner, leaf, size}
 use Rattle.trees.specs.Places.{cut}
 use Rattle.trees.specs.PruneLaws.{cut-le, cut-none}
 use Rattle.trees.specs.RulesLaws.{le-size}
 use Rattle.trees.specs.Rows.{Entry, node, tip, rows, number, prunedRows}
 use Rattle.trees.specs.RowsLaws.{length-rows}
 use Rattle.trees.specs.NumbersLaws.{rows-cut}
-use Rattle.trees.specs.RowLabels.{labelsOf, costsOf}
-use Rattle.trees.specs.RowLabelsLaws.{length-labels, length-costs}
+use Rattle.trees.specs.RowLabels.{labelsOf}
+use Rattle.trees.specs.RowLabelsLaws.{length-labels}
 use Rattle.tables.specs.Tables.{entryOf, entries, sum}
 use Rattle.tables.specs.TablesLaws.{length-entries}
 use Rattle.tables.specs.Records.{Holds, named, firstFault}
 use Rattle.prune_rows.specs.Marks.{children, Walk, atEnd, walk, marksOf}
-use Rattle.prune_rows.specs.Picked.{picked, rowBy, costBy, labelRows}
+use Rattle.prune_rows.specs.Picked.{picked, rowBy, labelRows}
 use Rattle.prune_rows.specs.Contracts.{Written, pruned}
 use Rattle.prune_rows.specs.MarksLaws.{walk-marks, cut-off-named}
 use Rattle.prune_rows.specs.PickedLaws.{picked-take, picked-agree, length-label-rows, label-rows-at}
-use Rattle.prune_rows.specs.PickedTrees.{picked-rows, picked-costs}
+use Rattle.prune_rows.specs.PickedTrees.{picked-rows}
 use Rattle.prune_rows.specs.TableLaws.{entries-counts, entries-at}
 use Rattle.prune_rows.specs.ListRule.{named-inner}
 
--- a row looks at its label and its blocks only where it has children
+-- a row looks at its label only where it has children
 same-row : (m t c : ℕ) (v x y : List ℕ) → (0 < c → x ≡ y) → rowBy m (entryOf t c v) x ≡ rowBy m (entryOf t c v) y
 same-row m t (suc c) v x y e = ap (rowBy m (node (suc c))) (e (omega arith))
 same-row zero t zero v x y e = refl
 same-row (suc zero) t zero v x y e = refl
 same-row (suc (suc m)) t zero v x y e = refl
-
-same-cost : (m t c : ℕ) (v : List ℕ) (x y : ℕ) → (0 < c → x ≡ y) → costBy m (entryOf t c v) x ≡ costBy m (entryOf t c v) y
-same-cost m t (suc c) v x y e = ap (costBy m (node (suc c))) (e (omega arith))
-same-cost zero t zero v x y e = refl
-same-cost (suc zero) t zero v x y e = refl
-same-cost (suc (suc m)) t zero v x y e = refl
 
 module _ (H : List ℕ → List ℕ) (list : List ℕ) (n : Node) where
   from-zero : cut H (λ p. named list (0 + number n p)) n ≡ pruned H list n
@@ -94,8 +88,8 @@ marked-inner list counts marks clean marked k h cut =
     named-inner counts list k clean
     (ap (named list) (sym (zero-add k)) ∙ cut-off-named (named list) counts 0 atEnd k h (omega arith))
 
-module _ (H : List ℕ → List ℕ) (n : Node) (types counts lengths values labels costs list marks : List ℕ)
-    (holds : Holds H n types counts lengths values labels costs) (marked : Marked list counts marks) where
+module _ (H : List ℕ → List ℕ) (n : Node) (types counts lengths values labels list marks : List ℕ)
+    (holds : Holds H n types counts lengths values labels) (marked : Marked list counts marks) where
   abbrev es : List Entry
   es = entries types counts lengths values
 
@@ -133,23 +127,3 @@ module _ (H : List ℕ → List ℕ) (n : Node) (types counts lengths values lab
           (same-row m (getD types k 0) (getD counts k 0) (take (getD lengths k 0) (drop (sum (take k lengths)) values))
           (getD (labelRows (length types) labels) k []) (getD (labelsOf H n) k [])
           (λ c. label-rows-at (length types) labels k in-table ∙ holds .labels-are k in-table c))
-
-  -- and its blocks
-  pub picked-blocks : sum (picked costBy marks es costs) ≡ blocks H (pruned H list n)
-  picked-blocks =
-      ap sum (sym (picked-take costBy marks es costs)
-      ∙ ap (λ (ms : List ℕ). picked costBy ms es costs) marks-are
-      ∙ picked-agree costBy 0 (tip 0 []) (marksOf (named list) 0 n) es costs (costsOf H n)
-      (omega (arith, entries-long, holds .costs-room)) (omega (arith, entries-long, size-is, length-costs H n)) agree
-      ∙ ap (λ (l : List Entry). picked costBy (marksOf (named list) 0 n) l (costsOf H n)) (holds .rows-are))
-      ∙ picked-costs H (named list) 0 n
-      ∙ ap (blocks H) (from-zero H list n)
-    where
-      agree : (k : ℕ) → k < length es → (m : ℕ)
-          → costBy m (getD es k (tip 0 [])) (getD costs k 0)
-          ≡ costBy m (getD es k (tip 0 [])) (getD (costsOf H n) k 0)
-      agree k h m =
-          let in-table : k < length types = omega (arith, entries-long) in
-          rw (entries-at types counts lengths values k (tip 0 []) (holds .counts-long) (holds .lengths-long) in-table)
-          (same-cost m (getD types k 0) (getD counts k 0) (take (getD lengths k 0) (drop (sum (take k lengths)) values))
-          (getD costs k 0) (getD (costsOf H n) k 0) (λ c. holds .costs-are k in-table c))

@@ -7,7 +7,7 @@ use lib.ListN.{length, getD}
 use Rattle.trees.specs.Rules.{labelBytes, maxNodes}
 use Rattle.trees.specs.Rows.{Entry}
 use Rattle.tables.specs.Tables.{entries, rowFits, firstBad, sum}
-use Rattle.prune_rows.specs.Picked.{picked, rowBy, costBy, labelRows}
+use Rattle.prune_rows.specs.Picked.{picked, rowBy, labelRows}
 use Rattle.prune_rows.specs.Contracts.{Written}
 
 -- k of the names are those of rows before row i
@@ -30,38 +30,33 @@ abbrev pub Adds : ℕ → ℕ → List ℕ → List ℕ → List ℕ → List �
 Adds rows used ts cs ls vs es rows′ used′ ts′ cs′ ls′ vs′ =
     (old : List Entry) → Written rows used ts cs ls vs old → Written rows′ used′ ts′ cs′ ls′ vs′ (old ++ es)
 
--- one entry more, with l bytes and its own blocks
-pub record Added (e : Entry) (l own rows used count : ℕ) (ts cs ls vs : List ℕ) (rows′ used′ count′ : ℕ) (ts′ cs′ ls′ vs′ : List ℕ) : Type 0 where
+-- one entry more, with l bytes
+pub record Added (e : Entry) (l rows used : ℕ) (ts cs ls vs : List ℕ) (rows′ used′ : ℕ) (ts′ cs′ ls′ vs′ : List ℕ) : Type 0 where
   pub row : rows′ ≡ rows + 1
   pub bytes : used′ ≡ used + l
-  pub cost : count′ ≡ count + own
   pub adds : Adds rows used ts cs ls vs (e ∷ []) rows′ used′ ts′ cs′ ls′ vs′
 
 -- one row of the first table, by its mark
 pub record Turn
-    (mark l : ℕ) (e : Entry) (label : List ℕ) (cost rows used count : ℕ) (ts cs ls vs : List ℕ)
-    (rows′ used′ count′ : ℕ) (ts′ cs′ ls′ vs′ : List ℕ) : Type 0 where
+    (mark l : ℕ) (e : Entry) (label : List ℕ) (rows used : ℕ) (ts cs ls vs : List ℕ)
+    (rows′ used′ : ℕ) (ts′ cs′ ls′ vs′ : List ℕ) : Type 0 where
   pub row : rows′ ≤ rows + 1
   pub bytes : used′ ≤ used + l + labelBytes
-  pub cost-is : count′ ≡ count + sum (costBy mark e cost)
-  pub cost-low : count′ ≤ count + 65535
   pub adds : Adds rows used ts cs ls vs (rowBy mark e label) rows′ used′ ts′ cs′ ls′ vs′
 
--- a table of the form with its labels, blocks and marks, of which only internal rows are cut off
-pub record Pickable (types counts lengths values labels costs marks : List ℕ) : Type 0 where
+-- a table of the form with its labels and marks, of which only internal rows are cut off
+pub record Pickable (types counts lengths values labels marks : List ℕ) : Type 0 where
   pub counts-long : length counts ≡ length types
   pub lengths-long : length lengths ≡ length types
   pub few : length types ≤ maxNodes
   pub formed : firstBad 0 types counts lengths ≡ length types
   pub area : sum lengths ≤ length values
   pub labels-room : labelBytes * length types ≤ length labels
-  pub costs-room : length types ≤ length costs
   pub cuts : (k : ℕ) → k < length types → 1 < getD marks k 0 → 0 < getD counts k 0
 
 -- what marks pick from a table
-pub record Picks (types counts lengths values labels costs marks : List ℕ) (rows used count : ℕ) (types2 counts2 lengths2 values2 : List ℕ) : Type 0 where
+pub record Picks (types counts lengths values labels marks : List ℕ) (rows used : ℕ) (types2 counts2 lengths2 values2 : List ℕ) : Type 0 where
   pub no-more : rows ≤ length types
   pub table :
       Written rows used types2 counts2 lengths2 values2
       (picked rowBy marks (entries types counts lengths values) (labelRows (length types) labels))
-  pub cost : count ≡ sum (picked costBy marks (entries types counts lengths values) costs)

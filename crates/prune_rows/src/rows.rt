@@ -4,59 +4,43 @@ use crate::marks::Mark;
 use tables::form::cell;
 use tables::limits::Slip;
 ghost use mathlib.Core.Path.{_≡_};
-ghost use mathlib.Core.List.{List};
-ghost use Prim.Native.Nat.{ℕ, _+_, _^_, _≤_, _<_};
+ghost use Prim.Native.Nat.{_+_, _≤_, _<_};
 ghost use lib.ListN.{length};
 ghost use Rattle.trees.specs.Rules.{labelBytes};
-ghost use Rattle.tables.specs.Tables.{entryOf, sum};
-ghost use Rattle.prune_rows.specs.Marks.{kept};
-ghost use Rattle.prune_rows.specs.Picked.{costBy};
+ghost use Rattle.tables.specs.Tables.{entryOf};
 ghost use Rattle.prune_rows.specs.Contracts.{Prunable, Roomy, Prunes};
 ghost use Rattle.prune_rows.specs.Steps.{Puts, Added, Turn, Pickable, Picks};
 
-// The rows of the second table, the bytes of its area, and the blocks of its internal rows.
+// The rows of the second table and the bytes of its area.
 pub struct Pruned {
     pub rows: usize,
     pub used: usize,
-    pub blocks: usize,
 }
 
-// One row more, with its part of the area and its blocks.
+// One row more, with its part of the area.
 fn put(
     t: u16,
     c: u16,
     l: u16,
     part: &[u8],
-    own: usize,
     p: Pruned,
     types2: &mut [u16],
     counts2: &mut [u16],
     lengths2: &mut [u16],
     values2: &mut [u8],
 ) -> Pruned
-    requires { ⌜ Puts t c l (p .rows) (p .used) (now part) (now types2) (now counts2) (now lengths2) (now values2) × (p .blocks + own < 2 ^ 32) ⌝ }
-    ensures { λ r. ⌜ Added (entryOf t c (now (part .entry))) l own (p .rows) (p .used) (p .blocks) (now (types2 .entry)) (now (counts2 .entry)) (now (lengths2 .entry)) (now (values2 .entry)) (r .rows) (r .used) (r .blocks) (now (types2 .exit)) (now (counts2 .exit)) (now (lengths2 .exit)) (now (values2 .exit)) ⌝ }
+    requires { ⌜ Puts t c l (p .rows) (p .used) (now part) (now types2) (now counts2) (now lengths2) (now values2) ⌝ }
+    ensures { λ r. ⌜ Added (entryOf t c (now (part .entry))) l (p .rows) (p .used) (now (types2 .entry)) (now (counts2 .entry)) (now (lengths2 .entry)) (now (values2 .entry)) (r .rows) (r .used) (now (types2 .exit)) (now (counts2 .exit)) (now (lengths2 .exit)) (now (values2 .exit)) ⌝ }
 {
     let at = p.rows;
     let from = p.used;
     let rows = at + 1;
     let used = from + (l as usize);
-    let blocks = p.blocks + own;
     types2[at] = t;
     counts2[at] = c;
     lengths2[at] = l;
     bytes::copy(part, &mut values2[from..]);
-    Pruned { rows, used, blocks }
-}
-
-// The blocks of a kept row with c children.
-fn own_blocks(c: u16, cost: u16) -> usize
-    ensures { λ r. ⌜ (r < 65536) × ((t : ℕ) (v : List ℕ) → r ≡ sum (costBy kept (entryOf t c v) cost)) ⌝ }
-{
-    if c == 0 {
-        return 0;
-    }
-    cost as usize
+    Pruned { rows, used }
 }
 
 // One row of the first table, by its mark.
@@ -65,7 +49,6 @@ fn turn(
     t: u16,
     c: u16,
     l: u16,
-    cost: u16,
     value: &[u8],
     label: &[u8],
     p: Pruned,
@@ -74,22 +57,20 @@ fn turn(
     lengths2: &mut [u16],
     values2: &mut [u8],
 ) -> Pruned
-    requires { ⌜ (1 < mark → 0 < c) × (length (now label) ≡ labelBytes) × Puts t c l (p .rows) (p .used) (now value) (now types2) (now counts2) (now lengths2) (now values2) × (p .used + l + labelBytes ≤ length (now values2)) × (p .blocks < 2 ^ 31) ⌝ }
-    ensures { λ r. ⌜ Turn mark l (entryOf t c (now (value .entry))) (now (label .entry)) cost (p .rows) (p .used) (p .blocks) (now (types2 .entry)) (now (counts2 .entry)) (now (lengths2 .entry)) (now (values2 .entry)) (r .rows) (r .used) (r .blocks) (now (types2 .exit)) (now (counts2 .exit)) (now (lengths2 .exit)) (now (values2 .exit)) ⌝ }
+    requires { ⌜ (1 < mark → 0 < c) × (length (now label) ≡ labelBytes) × Puts t c l (p .rows) (p .used) (now value) (now types2) (now counts2) (now lengths2) (now values2) × (p .used + l + labelBytes ≤ length (now values2)) ⌝ }
+    ensures { λ r. ⌜ Turn mark l (entryOf t c (now (value .entry))) (now (label .entry)) (p .rows) (p .used) (now (types2 .entry)) (now (counts2 .entry)) (now (lengths2 .entry)) (now (values2 .entry)) (r .rows) (r .used) (now (types2 .exit)) (now (counts2 .exit)) (now (lengths2 .exit)) (now (values2 .exit)) ⌝ }
 {
     if mark == Mark::GONE {
         return p;
     }
     if mark == Mark::KEPT {
-        let own = own_blocks(c, cost);
-        return put(t, c, l, value, own, p, types2, counts2, lengths2, values2);
+        return put(t, c, l, value, p, types2, counts2, lengths2, values2);
     }
     put(
         0,
         0,
         Slip::LABEL_BYTES as u16,
         label,
-        0,
         p,
         types2,
         counts2,
@@ -105,24 +86,19 @@ fn pick(
     lengths: &[u16],
     values: &[u8],
     labels: &[u8],
-    costs: &[u16],
     marks: &[u8],
     types2: &mut [u16],
     counts2: &mut [u16],
     lengths2: &mut [u16],
     values2: &mut [u8],
 ) -> Pruned
-    requires { ⌜ Pickable (now types) (now counts) (now lengths) (now values) (now labels) (now costs) (now marks) ⌝ }
-    requires { ⌜ Roomy (now types) (now lengths) (now marks) (now types2) (now counts2) (now lengths2) (now values2) ⌝ }
-    ensures { λ r. ⌜ Picks (now (types .entry)) (now (counts .entry)) (now (lengths .entry)) (now (values .entry)) (now (labels .entry)) (now (costs .entry)) (now (marks .entry)) (r .rows) (r .used) (r .blocks) (now (types2 .exit)) (now (counts2 .exit)) (now (lengths2 .exit)) (now (values2 .exit)) ⌝ }
+    requires { ⌜ Pickable (now types) (now counts) (now lengths) (now values) (now labels) (now marks) ⌝ }
+    requires { ⌜ Roomy (now types) (now lengths) (now types2) (now counts2) (now lengths2) (now values2) × (length (now types) ≤ length (now marks)) ⌝ }
+    ensures { λ r. ⌜ Picks (now (types .entry)) (now (counts .entry)) (now (lengths .entry)) (now (values .entry)) (now (labels .entry)) (now (marks .entry)) (r .rows) (r .used) (now (types2 .exit)) (now (counts2 .exit)) (now (lengths2 .exit)) (now (values2 .exit)) ⌝ }
 {
     let mut i = 0;
     let mut at = 0;
-    let mut p = Pruned {
-        rows: 0,
-        used: 0,
-        blocks: 0,
-    };
+    let mut p = Pruned { rows: 0, used: 0 };
     while i < types.len() {
         let next = i + 1;
         let end = at + cell(lengths, i);
@@ -133,7 +109,6 @@ fn pick(
             types[i],
             counts[i],
             lengths[i],
-            costs[i],
             &values[at..end],
             &labels[from..to],
             p,
@@ -155,27 +130,25 @@ pub fn prune_rows(
     lengths: &[u16],
     values: &[u8],
     labels: &[u8],
-    costs: &[u16],
     list: &[u16],
-    marks: &mut [u8],
     types2: &mut [u16],
     counts2: &mut [u16],
     lengths2: &mut [u16],
     values2: &mut [u8],
 ) -> Pruned
-    requires { ⌜ Prunable (now types) (now counts) (now lengths) (now values) (now labels) (now costs) (now list) ⌝ }
-    requires { ⌜ Roomy (now types) (now lengths) (now marks) (now types2) (now counts2) (now lengths2) (now values2) ⌝ }
-    ensures { λ r. ⌜ Prunes (now (types .entry)) (now (counts .entry)) (now (lengths .entry)) (now (values .entry)) (now (labels .entry)) (now (costs .entry)) (now (list .entry)) (r .rows) (r .used) (r .blocks) (now (types2 .exit)) (now (counts2 .exit)) (now (lengths2 .exit)) (now (values2 .exit)) ⌝ }
+    requires { ⌜ Prunable (now types) (now counts) (now lengths) (now values) (now labels) (now list) ⌝ }
+    requires { ⌜ Roomy (now types) (now lengths) (now types2) (now counts2) (now lengths2) (now values2) ⌝ }
+    ensures { λ r. ⌜ Prunes (now (types .entry)) (now (counts .entry)) (now (lengths .entry)) (now (values .entry)) (now (labels .entry)) (now (list .entry)) (r .rows) (r .used) (now (types2 .exit)) (now (counts2 .exit)) (now (lengths2 .exit)) (now (values2 .exit)) ⌝ }
 {
-    marks::mark_rows(counts, list, marks);
+    let mut marks = [0u8; Slip::MAX_NODES];
+    marks::mark_rows(counts, list, &mut marks);
     pick(
         types,
         counts,
         lengths,
         values,
         labels,
-        costs,
-        marks,
+        &marks,
         types2,
         counts2,
         lengths2,

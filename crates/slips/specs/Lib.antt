@@ -14,3 +14,5 @@ pub mod SlipTree
 pub mod SlipTreeLaws
 pub mod ByteTrees
 pub mod RowLabelLaws
+pub mod Holding
+pub mod HoldingLaws

@@ -1,4 +1,5 @@
 // The stack of waiting nodes: in one area their pieces end to end, in three columns their types, heights and label lengths.
+use sha2::padding;
 use tables::areas::HEAD;
 use tables::form;
 use tables::limits::Slip;
@@ -23,7 +24,7 @@ fn blocks_of(n: usize) -> usize
     requires { ⌜ n < 2 ^ 32 ⌝ }
     ensures { λ r. ⌜ r ≡ blocksOf n ⌝ }
 {
-    (n + 72) / 64
+    padding::blocks(n)
 }
 
 // One node more: its piece goes behind the pieces, its cells at the columns' ends.

@@ -1,4 +1,4 @@
--- A table that holds a tree, with the label and the blocks of each internal row beside it.
+-- A table that holds a tree, with the label of each internal row beside it.
 use Prim.Native.Nat.{ℕ, _*_, _≤_, _<_}
 use mathlib.Core.Bool.{Bool, false, cond, _&&_, _||_}
 use mathlib.Core.List.{List, [], _∷_}
@@ -9,10 +9,20 @@ use lib.ListN.{length, take, drop, getD}
 use Rattle.trees.specs.Nodes.{Node}
 use Rattle.trees.specs.Rules.{labelBytes, maxNodes}
 use Rattle.trees.specs.Rows.{rows}
-use Rattle.trees.specs.RowLabels.{labelsOf, costsOf}
+use Rattle.trees.specs.RowLabels.{labelsOf}
 use Rattle.tables.specs.Tables.{entries, firstBad, sum}
 
-pub record Holds (H : List ℕ → List ℕ) (n : Node) (types counts lengths values labels costs : List ℕ) : Type 0 where
+-- the table has the rows of the tree n
+pub record TreeTable (n : Node) (types counts lengths values : List ℕ) : Type 0 where
+  pub counts-long : length counts ≡ length types
+  pub lengths-long : length lengths ≡ length types
+  pub few : length types ≤ maxNodes
+  pub formed : firstBad 0 types counts lengths ≡ length types
+  pub area : sum lengths ≤ length values
+  pub rows-are : entries types counts lengths values ≡ rows n
+
+-- and the area of labels has those of its internal rows
+pub record Holds (H : List ℕ → List ℕ) (n : Node) (types counts lengths values labels : List ℕ) : Type 0 where
   pub counts-long : length counts ≡ length types
   pub lengths-long : length lengths ≡ length types
   pub few : length types ≤ maxNodes
@@ -25,8 +35,6 @@ pub record Holds (H : List ℕ → List ℕ) (n : Node) (types counts lengths va
       → k < length types
       → 0 < getD counts k 0
       → take labelBytes (drop (labelBytes * k) labels) ≡ getD (labelsOf H n) k []
-  pub costs-room : length types ≤ length costs
-  pub costs-are : (k : ℕ) → k < length types → 0 < getD counts k 0 → getD costs k 0 ≡ getD (costsOf H n) k 0
 
 -- the pruning list names entry k
 unfoldable pub named : List ℕ → ℕ → Bool

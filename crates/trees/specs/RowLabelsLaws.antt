@@ -1,11 +1,11 @@
--- A tree has one label and one number of blocks an entry.
+-- A tree has one label an entry.
 use mathlib.Core.Path.{_≡_, refl, ap₂, _∙_}
 use mathlib.Core.List.{List, [], _∷_}
 use Prim.Native.Nat.{ℕ, _+_}
 use native.Mathlib.Omega.{arith}
 use lib.ListN.{length, length-append}
-use Rattle.trees.specs.Nodes.{Node, Run, inner, leaf, nil, cons, size, sizes, prelabel, label, heads, blocksOf}
-use Rattle.trees.specs.RowLabels.{labelsOf, labelsIn, costsOf, costsIn}
+use Rattle.trees.specs.Nodes.{Node, Run, inner, leaf, nil, cons, size, sizes, label}
+use Rattle.trees.specs.RowLabels.{labelsOf, labelsIn}
 
 module _ (H : List ℕ → List ℕ) where
   mutual
@@ -16,12 +16,3 @@ module _ (H : List ℕ → List ℕ) where
     pub length-labels-in : (r : Run) → length (labelsIn H r) ≡ sizes r
     length-labels-in nil = refl
     length-labels-in (cons n r) = length-append (labelsOf H n) (labelsIn H r) ∙ ap₂ _+_ (length-labels n) (length-labels-in r)
-
-  mutual
-    pub length-costs : (n : Node) → length (costsOf H n) ≡ size n
-    length-costs (inner r) = omega (arith, length-append (costsIn H r) (blocksOf (length (prelabel (heads H r))) ∷ []), length-costs-in r)
-    length-costs (leaf t v) = refl
-
-    pub length-costs-in : (r : Run) → length (costsIn H r) ≡ sizes r
-    length-costs-in nil = refl
-    length-costs-in (cons n r) = length-append (costsOf H n) (costsIn H r) ∙ ap₂ _+_ (length-costs n) (length-costs-in r)

@@ -1,7 +1,7 @@
 use mathlib.Core.Path.{sym, ap, _∙_}
 use Rattle.slips.specs.declared.answer.Answer.{Answer}
-use Rattle.join.specs.Join.{sided}
-use Rattle.join.proofs.Answering.{headed, join-first, head-first, head-second}
+use Rattle.both_slips.specs.Both.{sided}
+use Rattle.join.proofs.Answering.{headed, headed-small, join-first, head-first, head-second}
 use borrow.Author.Needs.{needs}
 use Rattle.join.proofs.join.Statement.{statement}
 use Rattle.join.proofs.join.Tie as tie
@@ -20,19 +20,17 @@ returns-3 c =
     (c .sided3 .ensures ∙ ap (sided 2) (c .before .refused2 .ensures))
 
 small-requires : tie.Need-small-requires
-small-requires c κs =
-    let x = headed _ (c .before .before .before .before .before .before .before .before .before .before .header-of .ensures) (c .before .before .before .before .before .before .before .before .if1 .left) in
-    let y = headed _ (c .before .before .before .before .before .before .before .header-of2 .ensures) (c .before .before .before .before .before .if2 .left) in (
-      record { taken = x .taken; is = record { head = x .is .head; long = c .before .before .before .before .if4 .taken; counted = x .is .counted; few = c .before .before .if6 .taken } },
-      record { taken = y .taken; is = record { head = y .is .head; long = c .before .before .before .if5 .taken; counted = y .is .counted; few = c .before .if7 .taken } },
-    )
+small-requires c κs = (
+  headed-small _ (headed _ (c .before .before .before .before .before .before .before .before .before .before .header-of .ensures) (c .before .before .before .before .before .before .before .before .if1 .left)) (sym (c .before .before .before .before .is-small .ensures) ∙ c .before .before .before .if4 .taken),
+  headed-small _ (headed _ (c .before .before .before .before .before .before .before .header-of2 .ensures) (c .before .before .before .before .before .if2 .left)) (sym (c .before .before .is-small2 .ensures) ∙ c .before .if5 .taken),
+)
 
 large-requires : tie.Need-large-requires
-large-requires c κs = (headed _ (c .before .before .before .before .before .before .before .header-of .ensures) (c .before .before .before .before .before .if1 .left), headed _ (c .before .before .before .before .header-of2 .ensures) (c .before .before .if2 .left))
+large-requires c κs = (headed _ (c .before .before .before .before .before .before .before .before .header-of .ensures) (c .before .before .before .before .before .before .if1 .left), headed _ (c .before .before .before .before .before .header-of2 .ensures) (c .before .before .before .if2 .left))
 
 pub join-spec : {M : Type 1} → statement M
 join-spec =
     tie.close
     (tie.spec (λ c κs. search needs) (λ c κs. search needs) (λ c κs. search needs) returns (λ c κs. search needs) (λ c κs. search needs)
-    (λ c κs. search needs) returns-2 (λ c κs. search needs) (λ c κs. search needs) returns-3 small-requires (λ c. search needs)
-    (λ c. search needs) large-requires (λ c. search needs) (λ c. search needs))
+    (λ c κs. search needs) returns-2 (λ c κs. search needs) (λ c κs. search needs) returns-3 (λ c κs. search needs) (λ c κs. search needs)
+    small-requires (λ c. search needs) (λ c. search needs) large-requires (λ c. search needs) (λ c. search needs))

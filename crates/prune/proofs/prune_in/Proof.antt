@@ -1,7 +1,6 @@
-use Prim.Native.Nat.{_≤_}
-use mathlib.Core.Path.{_≡_, sym, ap, _∙_}
+use Prim.Native.Nat.{_≤_, ℕ}
 use mathlib.Core.List.{List}
-use Prim.Native.Nat.{ℕ}
+use mathlib.Core.Path.{_≡_, sym, ap, _∙_}
 use native.Mathlib.Omega.{arith}
 use denote.Ref.{now}
 use lib.ListN.{length}
@@ -11,125 +10,90 @@ use Rattle.tables.specs.Refusals.{accepted}
 use Rattle.sha2.specs.Sha256 as Sha256
 use Rattle.titles.specs.Compose.{composedText}
 use Rattle.slips.specs.declared.answer.Answer.{Answer}
-use Rattle.slips.specs.Check.{checkOf}
+use Rattle.slips.specs.Check.{countOf, checkOf}
 use Rattle.slips.specs.HeaderLaws.{check-body}
-use Rattle.held.specs.SlipTree.{slipTree}
+use Rattle.slips.specs.SlipTree.{slipTree}
+use Rattle.slips.specs.Holding.{HoldsTree}
+use Rattle.slips.specs.HoldingLaws.{Rooms, holds-tree}
 use Rattle.prune.specs.Prune.{prunedOf}
 use Rattle.prune.specs.PruneCallLaws.{packs-as, prune-refused, prune-accepted, counts-held}
 use borrow.Author.Needs.{needs}
 use Rattle.prune.proofs.prune_in.Statement.{statement}
 use Rattle.prune.proofs.prune_in.Tie as tie
 
--- the rows held lie within the columns
-within :
-    (c : tie.After-hold)
-    → let o = c .hold in
-    (o .result .rows ≤ length (o .last .1 .1 .0)) × (o .result .rows ≤ length (o .last .1 .1 .1 .0)) × (o .result .rows ≤ length (o .last .1 .1 .1 .1 .0))
-within c =
-    let o = c .hold in
-    let p = c .before .before .before .before .before .before .before .before .before .before .before .before .before .before .before .before .before .before .before .before .before .before .before .before .before .pre .0 .lent in (
-      omega (arith, o .ensures .few, p .counted, p .types-room, o .kept .1 .1 .0),
-      omega (arith, o .ensures .few, p .counted, p .counts-room, o .kept .1 .1 .1 .0),
-      omega (arith, o .ensures .few, p .counted, p .lengths-room, o .kept .1 .1 .1 .1 .0),
-    )
+-- the answer is the check's
+checked : (c : tie.After-open-in) → c .open-in .result .answer ≡ checkOf Sha256.label composedText (now (c .before .before .before .before .before .before .before .before .before .before .before .before .before .before .args .s))
+checked c = c .open-in .ensures .answer ∙ check-body Sha256.label composedText _ (c .before .before .before .before .before .before .before .before .before .before .before .before .before .before .pre .taken)
 
--- the answer to the slip is the check's
-checked : (c : tie.After-hold) → c .hold .result .answer ≡ checkOf Sha256.label composedText (now (c .before .before .before .before .before .before .before .before .before .before .before .before .before .before .before .before .before .before .before .before .before .before .before .before .before .args .s))
-checked c = c .hold .ensures .answer ∙ check-body Sha256.label composedText _ (c .before .before .before .before .before .before .before .before .before .before .before .before .before .before .before .before .before .before .before .before .before .before .before .before .before .pre .1)
+-- the areas are as long as they were lent, and hold an accepted slip's tree
+rooms : (c : tie.After-open-in) → let o = c .open-in in Rooms (countOf (now (c .before .before .before .before .before .before .before .before .before .before .before .before .before .before .args .s))) (o .last .1 .1 .0) (o .last .1 .1 .1 .0) (o .last .1 .1 .1 .1 .0) (o .last .1 .1 .1 .1 .1 .1 .0)
+rooms c =
+    let o = c .open-in in
+    let p = c .before .before .before .before .before .before .before .before .before .before .before .before .before .before .pre .lent in
+    record {
+      few = omega (arith, p .counted, p .few);
+      types-room = omega (arith, p .counted, p .types-room, o .kept .1 .1 .0);
+      counts-room = omega (arith, p .counted, p .counts-room, o .kept .1 .1 .1 .0);
+      lengths-room = omega (arith, p .counted, p .lengths-room, o .kept .1 .1 .1 .1 .0);
+      labels-room = omega (arith, p .counted, p .labels-room, o .kept .1 .1 .1 .1 .1 .1 .0);
+    }
 
--- the label of the tree held
-root :
-    (c : tie.After-hold) → c .hold .result .answer .number ≡ accepted
-    → c .hold .result .answer .label ≡ label Sha256.label (slipTree (now (c .before .before .before .before .before .before .before .before .before .before .before .before .before .before .before .before .before .before .before .before .before .before .before .before .before .args .s)))
-root c e =
-    let h = c .hold .ensures in
-    ap (λ (a : Answer). a .label) (h .answer ∙ h .tree e .reads-as .answer)
+tree : (c : tie.After-open-in) → c .open-in .result .answer .number ≡ accepted
+    → let o = c .open-in in HoldsTree (now (c .before .before .before .before .before .before .before .before .before .before .before .before .before .before .args .s)) (o .result .rows) (o .last .1 .1 .0) (o .last .1 .1 .1 .0) (o .last .1 .1 .1 .1 .0) (o .last .1 .1 .1 .1 .1 .0) (o .last .1 .1 .1 .1 .1 .1 .0)
+tree c e = holds-tree (c .open-in .ensures) (rooms c) e
 
 returns : tie.Need-returns
-returns c = prune-refused Sha256.label composedText _ _ _ (checked (c .before .before .before .before .before .before .before .before .before .before .before .before .before .before .before .before .before .before .before .before .before .before .before)) (c .if1 .taken)
+returns c = prune-refused Sha256.label composedText _ _ _ (checked (c .before .before .before .before .before .before .before .before .before .before .before .before .before)) (c .if1 .taken)
 
-slice-reshare-prefix-cut : tie.Need-slice-reshare-prefix-cut
-slice-reshare-prefix-cut c = within (c .before .before .before .before .before .before .before .before .before .before .before .before .before .before .before .before .before .before .before .before .before .before .before .before) .0
+within : (c : tie.After-open-in) → let o = c .open-in in (o .result .rows ≤ length (o .last .1 .1 .0)) × (o .result .rows ≤ length (o .last .1 .1 .1 .0)) × (o .result .rows ≤ length (o .last .1 .1 .1 .1 .0))
+within c =
+    let o = c .open-in in
+    let r = rooms c in
+    (omega (arith, o .ensures .few, r .types-room), omega (arith, o .ensures .few, r .counts-room), omega (arith, o .ensures .few, r .lengths-room))
 
-slice-aggregate-cut : tie.Need-slice-aggregate-cut
-slice-aggregate-cut c = let o = c .before .before .before .before .before .before .before .before .before .before .before .before .before .before .before .before .before .before .before .before .before .before .before .before .before .hold in sym (length-take-le (o .result .rows) (o .last .1 .1 .0) (within (c .before .before .before .before .before .before .before .before .before .before .before .before .before .before .before .before .before .before .before .before .before .before .before .before .before) .0))
+part : tie.Need-slice-reshare-prefix-cut
+part c = within (c .before .before .before .before .before .before .before .before .before .before .before .before .before .before) .0
 
-slice-reshare-prefix-cut-2 : tie.Need-slice-reshare-prefix-cut-2
-slice-reshare-prefix-cut-2 c = within (c .before .before .before .before .before .before .before .before .before .before .before .before .before .before .before .before .before .before .before .before .before .before .before .before .before) .1
+count : tie.Need-slice-aggregate-cut
+count c = sym (length-take-le _ _ (within (c .before .before .before .before .before .before .before .before .before .before .before .before .before .before .before) .0))
 
-slice-aggregate-cut-2 : tie.Need-slice-aggregate-cut-2
-slice-aggregate-cut-2 c = let o = c .before .before .before .before .before .before .before .before .before .before .before .before .before .before .before .before .before .before .before .before .before .before .before .before .before .before .hold in sym (length-take-le (o .result .rows) (o .last .1 .1 .1 .0) (within (c .before .before .before .before .before .before .before .before .before .before .before .before .before .before .before .before .before .before .before .before .before .before .before .before .before .before) .1))
+part-2 : tie.Need-slice-reshare-prefix-cut-2
+part-2 c = within (c .before .before .before .before .before .before .before .before .before .before .before .before .before .before .before) .1
 
-slice-reshare-prefix-cut-3 : tie.Need-slice-reshare-prefix-cut-3
-slice-reshare-prefix-cut-3 c = within (c .before .before .before .before .before .before .before .before .before .before .before .before .before .before .before .before .before .before .before .before .before .before .before .before .before .before) .2
+count-2 : tie.Need-slice-aggregate-cut-2
+count-2 c = sym (length-take-le _ _ (within (c .before .before .before .before .before .before .before .before .before .before .before .before .before .before .before .before) .1))
 
-slice-aggregate-cut-3 : tie.Need-slice-aggregate-cut-3
-slice-aggregate-cut-3 c = let o = c .before .before .before .before .before .before .before .before .before .before .before .before .before .before .before .before .before .before .before .before .before .before .before .before .before .before .before .hold in sym (length-take-le (o .result .rows) (o .last .1 .1 .1 .1 .0) (within (c .before .before .before .before .before .before .before .before .before .before .before .before .before .before .before .before .before .before .before .before .before .before .before .before .before .before .before) .2))
+part-3 : tie.Need-slice-reshare-prefix-cut-3
+part-3 c = within (c .before .before .before .before .before .before .before .before .before .before .before .before .before .before .before .before) .2
+
+count-3 : tie.Need-slice-aggregate-cut-3
+count-3 c = sym (length-take-le _ _ (within (c .before .before .before .before .before .before .before .before .before .before .before .before .before .before .before .before .before) .2))
 
 cut-requires : tie.Need-cut-requires
 cut-requires c κs =
-    let o = c .before .before .before .before .before .before .before .before .before .before .before .before .before .before .before .before .before .before .before .before .before .before .before .before .before .before .before .before .before .before .before .before .before .before .before .before .hold in
-    let p = c .before .before .before .before .before .before .before .before .before .before .before .before .before .before .before .before .before .before .before .before .before .before .before .before .before .before .before .before .before .before .before .before .before .before .before .before .before .before .before .before .before .before .before .before .before .before .before .before .before .before .before .before .before .before .before .before .before .before .before .before .before .pre .0 in
-    let e = c .before .before .before .before .before .before .before .before .before .before .before .before .before .if1 .left in
-    let few : o .result .rows ≤ c .before .before .before .before .before .before .before .before .before .before .before .before .before .before .before .before .before .before .before .before .before .before .before .before .before .before .before .before .before .before .before .before .before .before .before .before .before .before .before .before .before .before .before .before .before .before .before .before .before .before .before .before .before .before .before .before .before .before .before .before .before .args .n = omega (arith, o .ensures .few, p .lent .counted) in
-    let long = length-take-le (o .result .rows) (o .last .1 .1 .0) (within (c .before .before .before .before .before .before .before .before .before .before .before .before .before .before .before .before .before .before .before .before .before .before .before .before .before .before .before .before .before .before .before .before .before .before .before .before) .0) in
     record {
-      n = slipTree (now (c .before .before .before .before .before .before .before .before .before .before .before .before .before .before .before .before .before .before .before .before .before .before .before .before .before .before .before .before .before .before .before .before .before .before .before .before .before .before .before .before .before .before .before .before .before .before .before .before .before .before .before .before .before .before .before .before .before .before .before .before .before .args .s));
-      holds = o .ensures .tree e .holds;
-      root = root (c .before .before .before .before .before .before .before .before .before .before .before .before .before .before .before .before .before .before .before .before .before .before .before .before .before .before .before .before .before .before .before .before .before .before .before .before) e;
-      room =
-          record {
-            marks-room = omega (arith, long, few, p .lent .work-room, o .kept .1 .1 .1 .1 .1 .1 .1 .1 .1 .0);
-            types-room = omega (arith, long, few, p .lent .kinds-room, o .kept .1 .1 .1 .1 .1 .1 .0);
-            counts-room = omega (arith, long, few, p .lent .heights-room, o .kept .1 .1 .1 .1 .1 .1 .1 .0);
-            lengths-room = omega (arith, long, few, p .lent .sizes-room, o .kept .1 .1 .1 .1 .1 .1 .1 .1 .0);
-            values-room = omega (arith, long, few, o .ensures .used, o .ensures .room, o .kept .1 .1 .1 .1 .1 .0, p .values-room);
-          };
+      n = slipTree (now (c .before .before .before .before .before .before .before .before .before .before .before .before .before .before .before .before .before .before .before .before .before .before .before .before .before .before .before .before .before .before .before .before .before .before .args .s));
+      holds = tree (c .before .before .before .before .before .before .before .before .before .before .before .before .before .before .before .before .before .before .before .before) (c .before .before .before .before .before .before .before .if1 .left) .holds;
+      most = omega (arith, c .before .before .before .before .before .before .before .before .before .before .before .before .before .before .before .before .before .before .before .before .open-in .kept .1 .1 .1 .1 .1 .0, c .before .before .before .before .before .before .before .before .before .before .before .before .before .before .before .before .before .before .before .before .before .before .before .before .before .before .before .before .before .before .before .before .before .before .pre .most);
     }
 
-same-length-11 : tie.Need-same-length-11
-same-length-11 c = c .before .before .before .before .before .before .before .before .before .before .before .before .before .before .before .before .before .before .before .before .before .before .before .before .before .before .before .before .before .before .before .before .before .before .before .before .before .before .before .before .before .before .before .before .before .before .before .before .before .hold .kept .1 .1 .0
-
-same-length-12 : tie.Need-same-length-12
-same-length-12 c = c .before .before .before .before .before .before .before .before .before .before .before .before .before .before .before .before .before .before .before .before .before .before .before .before .before .before .before .before .before .before .before .before .before .before .before .before .before .before .before .before .before .before .before .before .before .before .before .before .before .hold .kept .1 .1 .1 .0
-
-same-length-13 : tie.Need-same-length-13
-same-length-13 c = c .before .before .before .before .before .before .before .before .before .before .before .before .before .before .before .before .before .before .before .before .before .before .before .before .before .before .before .before .before .before .before .before .before .before .before .before .before .before .before .before .before .before .before .before .before .before .before .before .before .hold .kept .1 .1 .1 .1 .0
-
-same-length-14 : tie.Need-same-length-14
-same-length-14 c = c .before .before .before .before .before .before .before .before .before .before .before .before .before .before .before .before .before .before .before .before .before .before .before .before .before .before .before .before .before .before .before .before .before .before .before .before .before .before .before .before .before .before .before .before .before .before .before .before .before .hold .kept .1 .1 .1 .1 .1 .0
-
-same-length-15 : tie.Need-same-length-15
-same-length-15 c = c .before .before .before .before .before .before .before .before .before .before .before .before .cut .kept .1 .1 .1 .1 .1 .1 .1 .1 .1 .0 ∙ c .before .before .before .before .before .before .before .before .before .before .before .before .before .before .before .before .before .before .before .before .before .before .before .before .before .before .before .before .before .before .before .before .before .before .before .before .before .before .before .before .before .before .before .before .before .before .before .before .before .hold .kept .1 .1 .1 .1 .1 .1 .0
-
-same-length-16 : tie.Need-same-length-16
-same-length-16 c = c .before .before .before .before .before .before .before .before .before .before .before .before .cut .kept .1 .1 .1 .1 .1 .1 .1 .1 .1 .1 .0 ∙ c .before .before .before .before .before .before .before .before .before .before .before .before .before .before .before .before .before .before .before .before .before .before .before .before .before .before .before .before .before .before .before .before .before .before .before .before .before .before .before .before .before .before .before .before .before .before .before .before .before .hold .kept .1 .1 .1 .1 .1 .1 .1 .0
-
-same-length-17 : tie.Need-same-length-17
-same-length-17 c = c .before .before .before .before .before .before .before .before .before .before .before .before .cut .kept .1 .1 .1 .1 .1 .1 .1 .1 .1 .1 .1 .0 ∙ c .before .before .before .before .before .before .before .before .before .before .before .before .before .before .before .before .before .before .before .before .before .before .before .before .before .before .before .before .before .before .before .before .before .before .before .before .before .before .before .before .before .before .before .before .before .before .before .before .before .hold .kept .1 .1 .1 .1 .1 .1 .1 .1 .0
-
-same-length-18 : tie.Need-same-length-18
-same-length-18 c = c .before .before .before .before .before .before .before .before .before .before .before .before .cut .kept .1 .1 .1 .1 .1 .1 .1 .1 .0 ∙ c .before .before .before .before .before .before .before .before .before .before .before .before .before .before .before .before .before .before .before .before .before .before .before .before .before .before .before .before .before .before .before .before .before .before .before .before .before .before .before .before .before .before .before .before .before .before .before .before .before .hold .kept .1 .1 .1 .1 .1 .1 .1 .1 .1 .0
-
-same-length-19 : tie.Need-same-length-19
-same-length-19 c = c .before .before .before .before .before .before .before .before .before .before .before .before .before .before .before .before .before .before .before .before .before .before .before .before .before .before .before .before .before .before .before .before .before .before .before .before .before .before .before .before .before .before .before .before .before .before .before .before .before .hold .kept .1 .1 .1 .1 .1 .1 .1 .1 .1 .1 .0
-
-same-length-20 : tie.Need-same-length-20
-same-length-20 c = c .before .before .before .before .before .before .before .before .before .before .before .before .before .before .before .before .before .before .before .before .before .before .before .before .before .before .before .before .before .before .before .before .before .before .before .before .before .before .before .before .before .before .before .before .before .before .before .before .before .hold .kept .1 .1 .1 .1 .1 .1 .1 .1 .1 .1 .1 .0
+-- the label told is that of the slip's tree
+root : (c : tie.After-open-in) → c .open-in .result .answer .number ≡ accepted → c .open-in .result .answer .label ≡ label Sha256.label (slipTree (now (c .before .before .before .before .before .before .before .before .before .before .before .before .before .before .args .s)))
+root c e = ap (λ (a : Answer). a .label) (c .open-in .ensures .answer ∙ tree c e .reads-as .answer)
 
 returns-2 : tie.Need-returns-2
 returns-2 c =
-    let s = now (c .before .before .before .before .before .before .before .before .before .before .before .before .before .before .before .before .before .before .before .before .before .before .before .before .before .before .before .before .before .before .before .before .before .before .before .before .before .before .before .before .before .before .before .before .before .before .before .before .before .before .before .before .before .before .before .before .before .before .before .before .before .before .before .before .before .before .before .before .before .before .before .before .before .before .args .s) in
-    let e = c .before .before .before .before .before .before .before .before .before .before .before .before .before .before .before .before .before .before .before .before .before .before .before .before .before .before .if1 .left in
-    let t = c .before .before .before .before .before .before .before .before .before .before .before .before .before .before .before .before .before .before .before .before .before .before .before .before .before .before .before .before .before .before .before .before .before .before .before .before .before .before .before .before .before .before .before .before .before .before .before .before .before .hold .ensures .tree e in
+    let s = now (c .before .before .before .before .before .before .before .before .before .before .before .before .before .before .before .before .before .before .before .before .before .before .before .before .before .before .before .before .before .before .before .before .before .before .before .before .before .args .s) in
+    let e = c .before .before .before .before .before .before .before .before .before .before .if1 .left in
+    let t = tree (c .before .before .before .before .before .before .before .before .before .before .before .before .before .before .before .before .before .before .before .before .before .before .before) e in
     packs-as
-    (ap (λ (cs : List ℕ). prunedOf Sha256.label cs (now (c .before .before .before .before .before .before .before .before .before .before .before .before .before .before .before .before .before .before .before .before .before .before .before .before .before .before .before .before .before .before .before .before .before .before .before .before .before .before .before .before .before .before .before .before .before .before .before .before .before .before .before .before .before .before .before .before .before .before .before .before .before .before .before .before .before .before .before .before .before .before .before .before .before .before .args .list)) (slipTree s) (now (c .before .before .before .before .before .before .before .before .before .before .before .before .before .before .before .before .before .before .before .before .before .before .before .before .before .before .before .before .before .before .before .before .before .before .before .before .before .before .before .before .before .before .before .before .before .before .before .before .before .before .before .before .before .before .before .before .before .before .before .before .before .before .before .before .before .before .before .before .before .before .before .before .before .before .args .out))) (counts-held t)
-    ∙ prune-accepted Sha256.label composedText s _ _ (ap (λ (a : Answer). a .number) (sym (checked (c .before .before .before .before .before .before .before .before .before .before .before .before .before .before .before .before .before .before .before .before .before .before .before .before .before .before .before .before .before .before .before .before .before .before .before .before .before .before .before .before .before .before .before .before .before .before .before .before .before))) ∙ e))
-    (c .before .before .before .before .before .before .before .before .before .before .before .before .cut .ensures (slipTree s) (t .holds) (root (c .before .before .before .before .before .before .before .before .before .before .before .before .before .before .before .before .before .before .before .before .before .before .before .before .before .before .before .before .before .before .before .before .before .before .before .before .before .before .before .before .before .before .before .before .before .before .before .before .before) e))
+    (ap (λ (cs : List ℕ). prunedOf Sha256.label cs (now (c .before .before .before .before .before .before .before .before .before .before .before .before .before .before .before .before .before .before .before .before .before .before .before .before .before .before .before .before .before .before .before .before .before .before .before .before .before .args .list)) (slipTree s) (now (c .before .before .before .before .before .before .before .before .before .before .before .before .before .before .before .before .before .before .before .before .before .before .before .before .before .before .before .before .before .before .before .before .before .before .before .before .before .args .out))) (counts-held t)
+    ∙ prune-accepted Sha256.label composedText s _ _ (ap (λ (a : Answer). a .number) (sym (checked (c .before .before .before .before .before .before .before .before .before .before .before .before .before .before .before .before .before .before .before .before .before .before .before))) ∙ e))
+    (c .before .before .cut .ensures (slipTree s) (t .holds) (root (c .before .before .before .before .before .before .before .before .before .before .before .before .before .before .before .before .before .before .before .before .before .before .before) e))
 
 pub prune-in-spec : {M : Type 1} → statement M
 prune-in-spec =
     tie.close
-    (tie.spec (λ c κs. search needs) (λ c. search needs) (λ c. search needs) (λ c. search needs) (λ c. search needs) (λ c. search needs) (λ c. search needs) (λ c. search needs) (λ c. search needs) (λ c. search needs) (λ c. search needs) returns slice-reshare-prefix-cut slice-aggregate-cut slice-reshare-prefix-cut-2 slice-aggregate-cut-2
-    slice-reshare-prefix-cut-3 slice-aggregate-cut-3 cut-requires same-length-11 same-length-12 same-length-13 same-length-14 same-length-15 same-length-16
-    same-length-17 same-length-18 same-length-19 same-length-20 (λ c. search needs) (λ c. search needs) returns-2)
+    (tie.spec (λ c κs. search needs) (λ c. search needs) (λ c. search needs) (λ c. search needs) (λ c. search needs) (λ c. search needs) returns
+    part count part-2 count-2 part-3 count-3 cut-requires (λ c. search needs) (λ c. search needs) (λ c. search needs) (λ c. search needs)
+    (λ c. search needs) (λ c. search needs) returns-2)

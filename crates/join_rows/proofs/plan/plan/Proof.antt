@@ -15,7 +15,7 @@ sub-i c =
     omega (
       arith,
       first-rows (p .H) (p .a) (p .b) (a .first) (now (a .types)) (now (a .counts)) (now (a .lengths)) (now (a .values)) (now
-          (a .labels)) (p .costs) (p .two),
+          (a .labels)) (p .two),
       some-size (p .a),
     )
 
@@ -26,7 +26,7 @@ sub-j c =
     omega (
       arith,
       first-low (p .H) (p .a) (p .b) (a .first) (now (a .types)) (now (a .counts)) (now (a .lengths)) (now (a .values)) (now
-          (a .labels)) (p .costs) (p .two),
+          (a .labels)) (p .two),
     )
 
 node-requires : tie.Need-node-requires
@@ -34,10 +34,10 @@ node-requires c κs =
     let a = c .before .before .before .before .before .before .before .before .before .args in
     let p = c .before .before .before .before .before .before .before .before .before .pre in
     let low = first-low (p .H) (p .a) (p .b) (a .first) (now (a .types)) (now (a .counts)) (now (a .lengths)) (now (a .values)) (now (a .labels))
-    (p .costs) (p .two) in
+    (p .two) in
     let rows = first-rows (p .H) (p .a) (p .b) (a .first) (now (a .types)) (now (a .counts)) (now (a .lengths)) (now (a .values)) (now (a .labels))
-    (p .costs) (p .two) in (
-      two-ready (p .H) (p .a) (p .b) (a .first) (now (a .types)) (now (a .counts)) (now (a .lengths)) (now (a .values)) (now (a .labels)) (p .costs)
+    (p .two) in (
+      two-ready (p .H) (p .a) (p .b) (a .first) (now (a .types)) (now (a .counts)) (now (a .lengths)) (now (a .values)) (now (a .labels))
           (p .two) (now (a .starts)) (now (a .offsets)) (p .surveyed),
       omega (arith, low, rows, some-size (p .a)),
       omega (arith, low),
@@ -50,20 +50,20 @@ sub-second c =
     let p = c .before .before .before .before .before .before .before .before .before .before .before .before .before .before .pre in
     let w = c .before .before .before .before .node in
     clash-planned (p .H) (p .a) (p .b) (a .first) (now (a .types)) (now (a .counts)) (now (a .lengths)) (now (a .values)) (now (a .labels))
-    (p .costs) (now (a .starts)) (now (a .offsets)) (p .two) (p .surveyed) (now (a .plan)) (w .last .1 .1 .1 .1 .1 .1 .1 .0) (length (now
+    (now (a .starts)) (now (a .offsets)) (p .two) (p .surveyed) (now (a .plan)) (w .last .1 .1 .1 .1 .1 .1 .1 .0) (length (now
     (a .plan))) (w .result) (c .before .if1 .taken)
     (join (p .H) (p .a) (p .b)) (two-said (p .H) (p .a) (p .b) (a .first) (now (a .types)) (now (a .counts)) (now (a .lengths)) (now (a .values))
-    (now (a .labels)) (p .costs) (now (a .starts)) (now (a .offsets)) (p .two) (p .surveyed) (now (a .plan)) _ _ (w .result) (w .ensures)) .0
+    (now (a .labels)) (now (a .starts)) (now (a .offsets)) (p .two) (p .surveyed) (now (a .plan)) _ _ (w .result) (w .ensures)) .0
 
 returns : tie.Need-returns
 returns c =
     let a = c .before .before .before .before .before .before .before .before .before .before .before .before .before .before .args in
     let p = c .before .before .before .before .before .before .before .before .before .before .before .before .before .before .pre in
     let w = c .before .before .before .before .node in
-    λ H x y costs h.
-    clash-planned H x y (a .first) (now (a .types)) (now (a .counts)) (now (a .lengths)) (now (a .values)) (now (a .labels)) costs (now (a .starts))
+    λ H x y h.
+    clash-planned H x y (a .first) (now (a .types)) (now (a .counts)) (now (a .lengths)) (now (a .values)) (now (a .labels)) (now (a .starts))
     (now (a .offsets)) h (p .surveyed) (now (a .plan)) (w .last .1 .1 .1 .1 .1 .1 .1 .0) (length (now (a .plan))) (w .result) (c .before .if1 .taken)
-    (join H x y) (two-said H x y (a .first) (now (a .types)) (now (a .counts)) (now (a .lengths)) (now (a .values)) (now (a .labels)) costs (now
+    (join H x y) (two-said H x y (a .first) (now (a .types)) (now (a .counts)) (now (a .lengths)) (now (a .values)) (now (a .labels)) (now
     (a .starts)) (now (a .offsets)) h (p .surveyed) (now (a .plan)) _ _ (w .result) (w .ensures)) .1
 
 returns-2 : tie.Need-returns-2
@@ -71,12 +71,12 @@ returns-2 c =
     let a = c .before .before .before .before .before .before .before .before .before .before .before .before .before .before .args in
     let p = c .before .before .before .before .before .before .before .before .before .before .before .before .before .before .pre in
     let w = c .before .before .before .before .node in
-    λ H x y costs h.
-    ok-planned H x y (a .first) (now (a .types)) (now (a .counts)) (now (a .lengths)) (now (a .values)) (now (a .labels)) costs (now (a .starts))
+    λ H x y h.
+    ok-planned H x y (a .first) (now (a .types)) (now (a .counts)) (now (a .lengths)) (now (a .values)) (now (a .labels)) (now (a .starts))
     (now (a .offsets)) h (p .surveyed) (now (a .plan)) (w .last .1 .1 .1 .1 .1 .1 .1 .0) (w .result) (w .kept .1 .1 .1 .1 .1 .1 .1 .0) (omega
-    (arith, p .room, all-rows H x y (a .first) (now (a .types)) (now (a .counts)) (now (a .lengths)) (now (a .values)) (now (a .labels)) costs h))
+    (arith, p .room, all-rows H x y (a .first) (now (a .types)) (now (a .counts)) (now (a .lengths)) (now (a .values)) (now (a .labels)) h))
     (c .before .if1 .left)
-    (join H x y) (two-said H x y (a .first) (now (a .types)) (now (a .counts)) (now (a .lengths)) (now (a .values)) (now (a .labels)) costs (now
+    (join H x y) (two-said H x y (a .first) (now (a .types)) (now (a .counts)) (now (a .lengths)) (now (a .values)) (now (a .labels)) (now
     (a .starts)) (now (a .offsets)) h (p .surveyed) (now (a .plan)) _ _ (w .result) (w .ensures))
 
 pub plan-spec : {M : Type 1} → statement M

@@ -11,127 +11,75 @@ use Rattle.prune_rows.proofs.rows.pick.Statement.{statement}
 use Rattle.prune_rows.proofs.rows.pick.Tie as tie
 
 abbrev Inv-loop : tie.InvT-loop
-Inv-loop types counts lengths values labels costs marks types2₀ counts2₀ lengths2₀ values2₀ i₀ at₀ p₀ types2 counts2 lengths2 values2 i at p =
+Inv-loop types counts lengths values labels marks types2₀ counts2₀ lengths2₀ values2₀ i₀ at₀ p₀ types2 counts2 lengths2 values2 i at p =
     (i ≤ length types)
     × (length types2 ≡ length types2₀)
     × (length counts2 ≡ length counts2₀)
     × (length lengths2 ≡ length lengths2₀)
     × (length values2 ≡ length values2₀)
-    × Going lengths (entries types counts lengths values) (labelRows (length types) labels) costs marks i at (p .rows) (p .used) (p .blocks) types2 counts2 lengths2 values2
+    × Going lengths (entries types counts lengths values) (labelRows (length types) labels) marks i at (p .rows) (p .used) types2 counts2 lengths2 values2
 
 abbrev μ-loop : tie.MeasureT-loop
-μ-loop types counts lengths values labels costs marks types2₀ counts2₀ lengths2₀ values2₀ i₀ at₀ p₀ types2 counts2 lengths2 values2 i at p =
+μ-loop types counts lengths values labels marks types2₀ counts2₀ lengths2₀ values2₀ i₀ at₀ p₀ types2 counts2 lengths2 values2 i at p =
     length types - i
 
 loop-holds : tie.Need-loop-holds Inv-loop μ-loop
-loop-holds c =
-    let s = c .before .before .before .before .before .before .before .before .before .before .before in
-    let a = s .args in (
-      omega arith,
-      refl,
-      refl,
-      refl,
-      refl,
-      going-none (now (a .types)) (now (a .counts)) (now (a .lengths)) (now (a .values)) (now (a .labels)) (now (a .costs)) (now (a .marks)) (s .pre .0)
-          (now (a .types2)) (now (a .counts2)) (now (a .lengths2)) (now (a .values2)),
-    )
+loop-holds c = (omega arith, refl, refl, refl, refl, going-none (c .before .before .before .before .before .before .before .before .before .before .pre .0) _ _ _ _)
 
--- row i's part of the area
-value-there :
-    (c : tie.In-loop Inv-loop μ-loop)
-    → let a = c .before .before .before .before .before .before .before .before .before .before .before .before .before .args in
-    let l = c .before .loop in
-    l .at + getD (now (a .lengths)) (l .i) 0 ≤ length (now (a .values))
-value-there c =
-    let s = c .before .before .before .before .before .before .before .before .before .before .before .before .before in
-    let a = s .args in
-    let l = c .before .loop in
-    value-in (now (a .types)) (now (a .counts)) (now (a .lengths)) (now (a .values)) (now (a .labels)) (now (a .costs)) (now (a .marks)) (s .pre .0) (l .i) (l .at) (l .p .rows) (l .p .used) (l .p .blocks) (l .types2) (l .counts2) (l .lengths2) (l .values2) (l .inv .5) (c .loop-test .taken) (omega (arith, s .pre .1 .marks-room, c .loop-test .taken))
+-- row i has a mark, and its part of the area
+marked : (c : tie.In-loop Inv-loop μ-loop) → c .before .loop .i < length (now (c .before .before .before .before .before .before .before .before .before .before .before .before .args .marks))
+marked c = omega (arith, c .before .before .before .before .before .before .before .before .before .before .before .before .pre .1 .1, c .loop-test .taken)
+
+value-there : (c : tie.In-loop Inv-loop μ-loop) → c .before .loop .at + getD (now (c .before .before .before .before .before .before .before .before .before .before .before .before .args .lengths)) (c .before .loop .i) 0 ≤ length (now (c .before .before .before .before .before .before .before .before .before .before .before .before .args .values))
+value-there c = value-in (c .before .before .before .before .before .before .before .before .before .before .before .before .pre .0) (c .before .loop .inv .5) (c .loop-test .taken) (marked c)
 
 add-end : tie.Need-add-end Inv-loop μ-loop
-add-end c = omega (arith, value-there (c .before), c .cell .ensures .0, c .before .before .before .before .before .before .before .before .before .before .before .before .before .before .good)
+add-end c = omega (arith, value-there (c .before), c .cell .ensures .0, c .before .before .before .before .before .before .before .before .before .before .before .before .before .good)
 
 part-turn-end : tie.Need-part-turn-end Inv-loop μ-loop
-part-turn-end c = omega (arith, value-there (c .before .before .before .before .before .before), c .before .before .before .before .before .cell .ensures .0)
+part-turn-end c = omega (arith, value-there (c .before .before .before .before .before), c .before .before .before .before .cell .ensures .0)
 
 turn-requires : tie.Need-turn-requires Inv-loop μ-loop
 turn-requires c κs =
-    let s = c .before .before .before .before .before .before .before .before .before .before .before .before .before .before .before .before .before .before .before .before .before .before .before .before .before in
-    let a = s .args in
-    let l = c .before .before .before .before .before .before .before .before .before .before .before .before .before .loop in
-    let r = s .pre .1 in
-    let here : l .i < length (now (a .types)) = c .before .before .before .before .before .before .before .before .before .before .before .before .loop-test .taken in
-    let marked : l .i < length (now (a .marks)) = omega (arith, r .marks-room, here) in (
-      s .pre .0 .cuts (l .i) here,
-      simp (length-take, length-drop) (omega (arith, here, s .pre .0 .labels-room)),
-      going-puts (now (a .types)) (now (a .counts)) (now (a .lengths)) (now (a .values)) (now (a .labels)) (now (a .costs)) (now (a .marks)) (s .pre .0) (l .i) (l .at) (l .p .rows) (l .p .used) (l .p .blocks) (l .types2) (l .counts2) (l .lengths2) (l .values2) (l .inv .5) here marked _
-          (value-part (now (a .values)) (l .at) (c .before .before .before .before .before .before .before .before .before .before .before .cell .result) _ (c .before .before .before .before .before .before .before .before .before .before .before .cell .ensures .0))
+    let p = c .before .before .before .before .before .before .before .before .before .before .before .before .before .before .before .before .before .before .before .before .before .before .before .pre in
+    let a = c .before .before .before .before .before .before .before .before .before .before .before .before .before .before .before .before .before .before .before .before .before .before .before .args in
+    let l = c .before .before .before .before .before .before .before .before .before .before .before .before .loop in
+    let r = p .1 .0 in
+    let here : l .i < length (now (a .types)) = c .before .before .before .before .before .before .before .before .before .before .before .loop-test .taken in
+    let some = marked (c .before .before .before .before .before .before .before .before .before .before .before) in (
+      p .0 .cuts (l .i) here,
+      simp (length-take, length-drop) (omega (arith, here, p .0 .labels-room)),
+      going-puts (p .0) (l .inv .5) here some _ (value-part (now (a .values)) (l .at) (c .before .before .before .before .before .before .before .before .before .before .cell .result) _ (c .before .before .before .before .before .before .before .before .before .before .cell .ensures .0))
           (omega (arith, r .types-room, l .inv .1)) (omega (arith, r .counts-room, l .inv .2)) (omega (arith, r .lengths-room, l .inv .3))
           (omega (arith, r .values-room, l .inv .4)),
-      value-room (now (a .types)) (now (a .counts)) (now (a .lengths)) (now (a .values)) (now (a .labels)) (now (a .costs)) (now (a .marks)) (s .pre .0) (l .i) (l .at) (l .p .rows) (l .p .used) (l .p .blocks) (l .types2) (l .counts2) (l .lengths2) (l .values2) (l .inv .5) here marked (length (l .values2)) (omega (arith, r .values-room, l .inv .4)),
-      omega (arith, l .inv .5 .count-low, s .pre .0 .few, here),
+      value-room (p .0) (l .inv .5) here some (length (l .values2)) (omega (arith, r .values-room, l .inv .4)),
     )
 
 loop-again : tie.Need-loop-again Inv-loop μ-loop
 loop-again c =
-    let s = c .before .before .before .before .before .before .before .before .before .before .before .before .before .before .before .before .before .before .before .before .before .before .before .before .before .before .before .before .before .before .before .before .before .before in
-    let a = s .args in
-    let l = c .before .before .before .before .before .before .before .before .before .before .before .before .before .before .before .before .before .before .before .before .before .before .loop in
+    let a = c .before .before .before .before .before .before .before .before .before .before .before .before .before .before .before .before .before .before .before .before .before .before .before .before .before .before .before .before .before .before .before .before .args in
+    let l = c .before .before .before .before .before .before .before .before .before .before .before .before .before .before .before .before .before .before .before .before .before .loop in
     let turn = c .before .before .before .before .before .before .before .before .turn in
-    let cell = c .before .before .before .before .before .before .before .before .before .before .before .before .before .before .before .before .before .before .before .before .cell in
-    let here : l .i < length (now (a .types)) = c .before .before .before .before .before .before .before .before .before .before .before .before .before .before .before .before .before .before .before .before .before .loop-test .taken in
-    let marked : l .i < length (now (a .marks)) = omega (arith, s .pre .1 .marks-room, here) in (
+    let cell = c .before .before .before .before .before .before .before .before .before .before .before .before .before .before .before .before .before .before .before .cell in
+    let here : l .i < length (now (a .types)) = c .before .before .before .before .before .before .before .before .before .before .before .before .before .before .before .before .before .before .before .before .loop-test .taken in (
       omega (arith, here),
-      turn .kept .1 .1 .1 .1 .1 .1 .1 .1 .0 ∙ l .inv .1,
-      turn .kept .1 .1 .1 .1 .1 .1 .1 .1 .1 .0 ∙ l .inv .2,
-      turn .kept .1 .1 .1 .1 .1 .1 .1 .1 .1 .1 .0 ∙ l .inv .3,
-      turn .kept .1 .1 .1 .1 .1 .1 .1 .1 .1 .1 .1 .0 ∙ l .inv .4,
-      going-more (now (a .types)) (now (a .counts)) (now (a .lengths)) (now (a .values)) (now (a .labels)) (now (a .costs)) (now (a .marks)) (s .pre .0) (l .i) (l .at) (l .p .rows) (l .p .used) (l .p .blocks) (l .types2) (l .counts2) (l .lengths2) (l .values2) (l .inv .5) here marked _ _
+      turn .kept .1 .1 .1 .1 .1 .1 .1 .0 ∙ l .inv .1,
+      turn .kept .1 .1 .1 .1 .1 .1 .1 .1 .0 ∙ l .inv .2,
+      turn .kept .1 .1 .1 .1 .1 .1 .1 .1 .1 .0 ∙ l .inv .3,
+      turn .kept .1 .1 .1 .1 .1 .1 .1 .1 .1 .1 .0 ∙ l .inv .4,
+      going-more (c .before .before .before .before .before .before .before .before .before .before .before .before .before .before .before .before .before .before .before .before .before .before .before .before .before .before .before .before .before .before .before .before .pre .0) (l .inv .5) here (marked (c .before .before .before .before .before .before .before .before .before .before .before .before .before .before .before .before .before .before .before .before)) _ _
           (value-part (now (a .values)) (l .at) (cell .result) _ (cell .ensures .0)) (label-part (now (a .labels)) (l .i))
-          (l .at + cell .result) (turn .result .rows) (turn .result .used) (turn .result .blocks) _ _ _ _
           (ap (λ (k : ℕ). l .at + k) (cell .ensures .0)) (turn .ensures),
     )
 
 returns : tie.Need-returns Inv-loop μ-loop
-returns c =
-    let s = c .before .before .before .before .before .before .before .before .before .before .before .before .before in
-    let a = s .args in
-    let l = c .before .loop in
-    going-all (now (a .types)) (now (a .counts)) (now (a .lengths)) (now (a .values)) (now (a .labels)) (now (a .costs)) (now (a .marks)) (s .pre .0)
-    (l .i) (l .at) (l .p .rows) (l .p .used) (l .p .blocks) (l .types2) (l .counts2) (l .lengths2) (l .values2) (c .loop-test .left) (l .inv .0) (l .inv .5)
+returns c = going-all (c .before .before .before .before .before .before .before .before .before .before .before .before .pre .0) (c .loop-test .left) (c .before .loop .inv .0) (c .before .loop .inv .5)
 
 pub pick-spec : {M : Type 1} → statement M
 pick-spec =
     tie.close
-    (tie.spec
-    Inv-loop
-    μ-loop
-    loop-holds
-    (λ c. search needs)
-    (λ c κs. search needs)
-    add-end
-    (λ c. search needs)
-    (λ c. search needs)
-    (λ c. search needs)
-    (λ c. search needs)
-    (λ c. search needs)
-    (λ c. search needs)
-    (λ c. search needs)
-    (λ c. search needs)
-    (λ c. search needs)
-    (λ c. search needs)
-    (λ c. search needs)
-    (λ c. search needs)
-    (λ c. search needs)
-    part-turn-end
-    (λ c. search needs)
-    (λ c. search needs)
-    (λ c. search needs)
-    turn-requires
-    (λ c. search needs)
-    loop-again
-    (λ c. search needs)
-    (λ c. search needs)
-    (λ c. search needs)
-    (λ c. search needs)
-    returns)
+    (tie.spec Inv-loop μ-loop loop-holds (λ c. search needs) (λ c κs. search needs) add-end (λ c. search needs) (λ c. search needs)
+    (λ c. search needs) (λ c. search needs) (λ c. search needs) (λ c. search needs) (λ c. search needs) (λ c. search needs)
+    (λ c. search needs) (λ c. search needs) (λ c. search needs) part-turn-end (λ c. search needs) (λ c. search needs)
+    (λ c. search needs) turn-requires (λ c. search needs) loop-again (λ c. search needs) (λ c. search needs) (λ c. search needs)
+    (λ c. search needs) returns)

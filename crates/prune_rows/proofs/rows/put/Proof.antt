@@ -11,23 +11,22 @@ use Rattle.prune_rows.proofs.rows.put.Tie as tie
 
 returns : tie.Need-returns
 returns c =
-    let s = c .before .before .before .before .before .before .before .before .before .before in
-    let a = s .args in
+    let a = c .before .before .before .before .before .before .before .before .before .args in
+    let p = c .before .before .before .before .before .before .before .before .before .pre in
     let area = now (a .values2) in
     let from = a .p .used in
-    let all : from + (length area - from) ≡ length area = omega (arith, s .pre .0 .values-room) in
+    let all : from + (length area - from) ≡ length area = omega (arith, p .values-room) in
     record {
       row = refl;
       bytes = refl;
-      cost = refl;
       adds =
-          written-more (a .t) (a .c) (a .l) (a .p .rows) from (now (a .part)) (now (a .types2)) (now (a .counts2)) (now (a .lengths2)) area _ (s .pre .0)
+          written-more (a .t) (a .c) (a .l) (a .p .rows) from (now (a .part)) (now (a .types2)) (now (a .counts2)) (now (a .lengths2)) area _ p
           (put-is area (now (a .part)) _ from (length area - from) all (c .before .before .copy .ensures .1));
     }
 
 pub put-spec : {M : Type 1} → statement M
 put-spec =
     tie.close
-    (tie.spec (λ c. search needs) (λ c. search needs) (λ c. search needs) (λ c. search needs) (λ c. search needs) (λ c. search needs) (λ c. search needs)
+    (tie.spec (λ c. search needs) (λ c. search needs) (λ c. search needs) (λ c. search needs) (λ c. search needs) (λ c. search needs)
     (λ c. search needs) (λ c. search needs) (λ c. search needs) (λ c. search needs) (λ c. search needs) (λ c κs. search needs)
     (λ c. search needs) (λ c. search needs) (λ c. search needs) (λ c. search needs) returns)

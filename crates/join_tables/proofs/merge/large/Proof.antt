@@ -1,0 +1,36 @@
+use Prim.Native.Nat.{ℕ}
+use mathlib.Core.Path.{sym}
+use native.Mathlib.Omega.{arith}
+use lib.ListN.{length-replicate}
+use lib.Seq.{length-take-le}
+use Rattle.join_tables.proofs.Merging.{two-few}
+use borrow.Author.Needs.{needs}
+use Rattle.join_tables.proofs.merge.large.Statement.{statement}
+use Rattle.join_tables.proofs.merge.large.Tie as tie
+
+front-starts : tie.Need-array-borrow-prefix-starts
+front-starts c = omega (arith, two-few (c .before .before .before .before .before .before .pre .two))
+
+count-starts : tie.Need-slice-aggregate-merge-in
+count-starts c = sym (length-take-le _ _ (omega (arith, two-few (c .before .before .before .before .before .before .before .pre .two), length-replicate {A = ℕ} 2046 0)))
+
+front-offsets : tie.Need-array-borrow-prefix-offsets
+front-offsets c = omega (arith, two-few (c .before .before .before .before .before .before .before .pre .two))
+
+count-offsets : tie.Need-slice-aggregate-merge-in-2
+count-offsets c = sym (length-take-le _ _ (omega (arith, two-few (c .before .before .before .before .before .before .before .before .pre .two), length-replicate {A = ℕ} 2046 0)))
+
+merge-in-requires : tie.Need-merge-in-requires
+merge-in-requires c κs = (
+  c .before .before .before .before .before .before .before .before .before .before .pre,
+  record {
+    starts-long = length-take-le _ _ (omega (arith, two-few (c .before .before .before .before .before .before .before .before .before .before .pre .two), length-replicate {A = ℕ} 2046 0));
+    offsets-long = length-take-le _ _ (omega (arith, two-few (c .before .before .before .before .before .before .before .before .before .before .pre .two), length-replicate {A = ℕ} 2046 0));
+    cells-room = omega (arith, two-few (c .before .before .before .before .before .before .before .before .before .before .pre .two), length-replicate {A = ℕ} 2046 0);
+  },
+)
+
+pub large-spec : {M : Type 1} → statement M
+large-spec =
+    tie.close
+    (tie.spec front-starts count-starts front-offsets count-offsets (λ c. search needs) merge-in-requires (λ c. search needs) (λ c. search needs))

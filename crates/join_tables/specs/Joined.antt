@@ -1,0 +1,31 @@
+-- What the join of two trees answers and leaves: "14 (first clash in this order: a node, then all of its first child's subtree, then the
+-- next child's), 15, 11".
+use Prim.Native.Nat.{ℕ}
+use mathlib.Core.Bool.{Bool, cond, _||_}
+use mathlib.Core.List.{List}
+use lib.Dec.{ltb}
+use lib.ListN.{length}
+use Rattle.trees.specs.Nodes.{Node, size}
+use Rattle.trees.specs.Rules.{maxNodes, maxBytes, clashing}
+use Rattle.trees.specs.Join.{Joint, ok, clash}
+use Rattle.trees.specs.Rows.{rows, number}
+use Rattle.tables.specs.Refusals.{joinTooLarge}
+use Rattle.codec.specs.Writing.{slipOf}
+use Rattle.engine.specs.Engine.{noLabel}
+use Rattle.slips.specs.declared.answer.Answer.{Answer}
+use Rattle.slips.specs.Answers.{refused}
+use Rattle.slips.specs.Output.{Packed, still}
+use Rattle.send.specs.Sent.{sentTree}
+
+-- "the two entry numbers for 14"
+abbrev pub clashed : ℕ → ℕ → Answer
+clashed i j = record { number = clashing; place = i; second = j; side = 0; length = 0; blocks = 0; label = noLabel }
+
+-- "join over 1,023 nodes or 32,768 bytes"
+abbrev pub tooLarge : Node → Bool
+tooLarge c = ltb maxNodes (size c) || ltb maxBytes (length (slipOf (rows c)))
+
+-- "14 .., 15, 11", by the join of the trees a and b
+unfoldable pub joinedOf : (List ℕ → List ℕ) → Node → Node → List ℕ → Joint → Packed
+joinedOf H a b out (clash p) = still (clashed (number a p) (number b p)) out
+joinedOf H a b out (ok c) = cond (tooLarge c) (still (refused joinTooLarge 0) out) (sentTree H c out)

@@ -1,0 +1,44 @@
+-- What sending answers and leaves, by whether there is room.
+use Prim.Native.Nat.{ℕ, _≤_, _<_}
+use mathlib.Core.List.{List}
+use mathlib.Core.Path.{_≡_, refl, subst}
+use borrow.Author.Tests.{lt-ltb, le-ltb}
+use lib.ListN.{length}
+use Rattle.trees.specs.Nodes.{Node, label, blocks}
+use Rattle.trees.specs.Rows.{Entry, rows}
+use Rattle.tables.specs.Records.{TreeTable}
+use Rattle.tables.specs.Refusals.{noRoom}
+use Rattle.codec.specs.Writing.{slipOf}
+use Rattle.slips.specs.declared.answer.Answer.{Answer}
+use Rattle.slips.specs.Answers.{refused, taken}
+use Rattle.slips.specs.Output.{over, Packed, Packs}
+use Rattle.send.specs.Sent.{Sendable, sent, sentTree}
+
+module _ (es : List Entry) (b : ℕ) (l out : List ℕ) where
+  pub sent-roomless : length out < length (slipOf es) → {r : Answer} → r ≡ refused noRoom 0 → Packs (sent es b l out) r out
+  unfolding sent
+  sent-roomless h e = rw (lt-ltb (length out) (length (slipOf es)) h) (record { answered = e; written = refl })
+
+  pub sent-whole : length (slipOf es) ≤ length out → {r : Answer} {left : List ℕ} → r ≡ taken (length (slipOf es)) b l → left ≡ over (slipOf es) out
+      → Packs (sent es b l out) r left
+  unfolding sent
+  sent-whole h e w = rw (le-ltb (length out) (length (slipOf es)) h) (record { answered = e; written = w })
+
+-- the table of a tree can be sent
+pub tree-sendable : {n : Node} {types counts lengths values : List ℕ} → TreeTable n types counts lengths values → Sendable types counts lengths values
+tree-sendable t =
+    record {
+      columns = record { sameCounts = t .counts-long; sameLengths = t .lengths-long; few = t .few };
+      form = t .formed;
+      filled = t .area;
+    }
+
+-- what is sent of a tree's entries with its blocks and label is that tree's
+pub sent-tree :
+    (H : List ℕ → List ℕ) (n : Node) (es : List Entry) (b : ℕ) (l out : List ℕ) {left : List ℕ} {r : Answer}
+    → es ≡ rows n
+    → b ≡ blocks H n
+    → l ≡ label H n
+    → Packs (sent es b l out) r left
+    → Packs (sentTree H n out) r left
+sent-tree H n es b l out {left} {r} p q e x = subst (λ (o : Packed). Packs o r left) (λ i. sent (p i) (q i) (e i) out) x
