@@ -26,17 +26,19 @@ use Rattle.prune_rows.specs.Marks.{children}
 use Rattle.prune_rows.specs.Contracts.{pruned}
 use Rattle.slips.specs.declared.answer.Answer.{Answer}
 use Rattle.slips.specs.declared.header.Header.{Header}
-use Rattle.slips.specs.declared.pack.Fault.{Fault}
+use Rattle.pack.specs.declared.Fault.{Fault}
 use Rattle.slips.specs.Answers.{refused, taken}
 use Rattle.slips.specs.Check.{headerBits, editionOf, countOf, readingOf, paddingFits, settled, headerOf, bodyOf, checkOf}
 use Rattle.tables.specs.Limits.{edition}
-use Rattle.slips.specs.Pack.{Packed, rowsOf, badRow, faultOf, judgedAs, answerOf, packOf}
-use Rattle.slips.specs.Unpack.{Unpacked, lacksRoom, overAll, handedOf, tableOf, unpackOf}
-use Rattle.slips.specs.Columns.{over}
-use Rattle.held.specs.SlipTree.{slipTree}
-use Rattle.held.specs.Sent.{still, sent}
+use Rattle.slips.specs.Output.{Packed, over, still}
+use Rattle.pack.specs.Pack.{rowsOf, badRow, faultOf, judgedAs, answerOf, packOf}
+use Rattle.unpack.specs.Unpack.{Unpacked, lacksRoom, overAll, handedOf, tableOf, unpackOf}
+use Rattle.slips.specs.SlipTree.{slipTree}
+use Rattle.send.specs.Sent.{sent}
 use Rattle.prune.specs.Prune.{prunedOf, pruneOf}
-use Rattle.join.specs.Join.{sided, clashed, tooLarge, joinedOf, joinOf}
+use Rattle.both_slips.specs.Both.{sided}
+use Rattle.join_tables.specs.Joined.{clashed, tooLarge, joinedOf}
+use Rattle.join.specs.Join.{joinOf}
 use Rattle.demands.specs.Refusals.{upTo, placeless, Stated, Refuses, Leaves}
 
 -- a refusal with a place, and one without

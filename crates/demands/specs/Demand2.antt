@@ -19,21 +19,21 @@ use Rattle.codec.specs.Writing.{slipOf}
 use Rattle.sha2.specs.Sha256 as Sha256
 use Rattle.sha2.specs.Blocks.{Octets, label-long, label-octets}
 use Rattle.titles.specs.Refusals as Titles
-use Rattle.titles.specs.Utf8.{encodes, decode}
-use Rattle.titles.specs.Repertoire.{allPlain}
-use Rattle.titles.specs.Nfc.{nfc}
+use Rattle.unicode.specs.Utf8.{encodes, decode}
+use Rattle.unicode.specs.Repertoire.{allPlain}
+use Rattle.unicode.specs.Nfc.{nfc}
 use Rattle.titles.specs.Compose.{composedText, acceptedWith, outcome}
 use Rattle.titles.specs.Titles.{title-nfc, accepted-nfc, equal-nfc}
 use Rattle.prune_rows.specs.Contracts.{pruned}
 use Rattle.slips.specs.Answers.{taken}
 use Rattle.slips.specs.Check.{readingOf, checkOf}
-use Rattle.slips.specs.Columns.{over}
-use Rattle.slips.specs.Pack.{rowsOf, answerOf, packOf}
-use Rattle.slips.specs.Unpack.{tableOf, handedOf, unpackOf}
+use Rattle.slips.specs.Output.{over}
+use Rattle.pack.specs.Pack.{rowsOf, answerOf, packOf}
+use Rattle.unpack.specs.Unpack.{tableOf, handedOf, unpackOf}
 use Rattle.slips.specs.SlipTrees.{SlipOf, check-complete, check-unique}
-use Rattle.slips.specs.RoundTrips.{slip-again, table-again}
-use Rattle.held.specs.SlipTree.{slipTree}
-use Rattle.held.specs.ByteTrees.{accepted-slip}
+use Rattle.pack.specs.RoundTrips.{slip-again, table-again}
+use Rattle.slips.specs.SlipTree.{slipTree}
+use Rattle.slips.specs.ByteTrees.{accepted-slip}
 use Rattle.prune.specs.Prune.{pruneOf}
 use Rattle.prune.specs.PruneTheorems.{PrunedAs, prune-told, prune-checks}
 

@@ -22,7 +22,8 @@ use Rattle.sha2.specs.Sha256 as Sha256
 use Rattle.titles.specs.Compose.{composedText}
 use Rattle.slips.specs.declared.answer.Answer.{Answer}
 use Rattle.slips.specs.SlipTrees.{check-complete}
-use Rattle.held.specs.SlipTree.{slipTree, slip-tree}
+use Rattle.slips.specs.SlipTree.{slipTree}
+use Rattle.slips.specs.SlipTreeLaws.{slip-tree}
 use Rattle.demands.specs.Library.{Arrival, start, Reached, misfits, clashes, ever, Ours, copy, Shown, Same}
 use Rattle.demands.specs.LibraryLaws.{read, fits, Stands, stands-bare, stands-run, misfit-run, clash-run, read-roots, got-from, got-reached}
 

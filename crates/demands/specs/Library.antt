@@ -16,8 +16,8 @@ use Rattle.trees.specs.Rows.{rows}
 use Rattle.tables.specs.Refusals.{accepted, noRoom, joinTooLarge}
 use Rattle.codec.specs.Writing.{slipOf}
 use Rattle.slips.specs.Check.{checkOf}
-use Rattle.slips.specs.Pack.{Packed}
-use Rattle.held.specs.SlipTree.{slipTree}
+use Rattle.slips.specs.Output.{Packed}
+use Rattle.slips.specs.SlipTree.{slipTree}
 use Rattle.join.specs.Join.{joinOf}
 
 -- what arrives: any bytes, and the buffer lent for the join

@@ -29,13 +29,14 @@ use Rattle.codec.specs.SlipLaws.{below-slipOf}
 use Rattle.slips.specs.declared.answer.Answer.{Answer}
 use Rattle.slips.specs.Answers.{refused, taken}
 use Rattle.slips.specs.Check.{checkOf}
-use Rattle.slips.specs.Columns.{over}
-use Rattle.slips.specs.Pack.{Packed}
+use Rattle.slips.specs.Output.{over, Packed, still}
 use Rattle.slips.specs.SlipTrees.{SlipOf, check-complete, check-unique}
-use Rattle.held.specs.SlipTree.{slipTree, slip-tree}
-use Rattle.held.specs.Sent.{still, sent}
-use Rattle.held.specs.ByteTrees.{tree-slip, accepted-slip}
-use Rattle.join.specs.Join.{sided, clashed, tooLarge}
+use Rattle.slips.specs.SlipTree.{slipTree}
+use Rattle.slips.specs.SlipTreeLaws.{slip-tree}
+use Rattle.send.specs.Sent.{sent}
+use Rattle.slips.specs.ByteTrees.{tree-slip, accepted-slip}
+use Rattle.both_slips.specs.Both.{sided}
+use Rattle.join_tables.specs.Joined.{clashed, tooLarge}
 use Rattle.join.specs.JoinTheorems.{Goes, first, second, differ, clashes, large, joins, join-goes}
 use Rattle.demands.specs.Library.{Arrival, start, Reached, misfits, outcome, after, kept, ever, Ours}
 use Rattle.demands.specs.Library as Library

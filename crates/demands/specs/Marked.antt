@@ -15,8 +15,9 @@ use Rattle.titles.specs.Cases.{loose, whole, loose-composes, whole-itself, empt
 use Rattle.slips.specs.Answers.{refused, taken}
 use Rattle.slips.specs.Check.{paddingFits, settled, headerOf, bodyOf, checkOf}
 use Rattle.slips.specs.Cases.{bare, bare-accepted, bare-padding-set, bare-cut, no-nodes, other-edition, no-bytes}
-use Rattle.held.specs.Sent.{still}
-use Rattle.join.specs.Join.{clashed, joinedOf, joinOf}
+use Rattle.slips.specs.Output.{still}
+use Rattle.join_tables.specs.Joined.{clashed, joinedOf}
+use Rattle.join.specs.Join.{joinOf}
 use Rattle.label_cases.specs.Values.{copies}
 
 -- a line of the list

@@ -11,9 +11,11 @@ use Rattle.titles.specs.declared.Composed.{Composed}
 use Rattle.lookup.specs.Lookup.{lookup, Handed}
 use Rattle.slips.specs.declared.answer.Answer.{Answer}
 use Rattle.slips.specs.Check.{checkOf}
-use Rattle.slips.specs.Pack.{Packs, packOf}
-use Rattle.slips.specs.Unpack.{Leaves, unpackOf}
+use Rattle.slips.specs.Output.{Packs}
+use Rattle.pack.specs.Pack.{packOf}
+use Rattle.unpack.specs.Unpack.{Leaves, unpackOf}
 use Rattle.slips.specs.OneAnswer as Slips
+use Rattle.unpack.specs.OneAnswer as Unpack
 use Rattle.prune.specs.Prune.{pruneOf}
 use Rattle.join.specs.Join.{joinOf}
 
@@ -36,7 +38,7 @@ module _ (s u list out : List ℕ) {r q : Answer} where
       → Leaves (unpackOf Sha256.label composedText s b) r t c l v
       → Leaves (unpackOf Sha256.label composedText s b) q t′ c′ l′ v′
       → (r ≡ q) × (t ≡ t′) × (c ≡ c′) × (l ≡ l′) × (v ≡ v′)
-  unpack-one b e f = Slips.unpack-one e f
+  unpack-one b e f = Unpack.unpack-one e f
 
 module _ (kind : ℕ) (t u : Table) where
   pub holder-one : {h k : ℕ} → h ≡ lookup kind t u .holder → k ≡ lookup kind t u .holder → h ≡ k

@@ -9,7 +9,7 @@ use Rattle.trees.specs.Rules.{clashing}
 use Rattle.tables.specs.Refusals.{accepted, tooLong, otherEdition, noNodes, notOneTree, badPadding, noRoom, rootsDiffer, joinTooLarge}
 use Rattle.engine.specs.Engine.{noLabel}
 use Rattle.slips.specs.declared.answer.Answer.{Answer}
-use Rattle.slips.specs.Pack.{Packed}
+use Rattle.slips.specs.Output.{Packed}
 
 -- a refusal's number is one of the table's, up to the last that a call may answer
 abbrev pub upTo : ℕ → ℕ → Bool

@@ -6,9 +6,10 @@ use mathlib.Core.Path.{_≡_, refl, sym, _∙_}
 use lib.Dec.{ltb, eqb}
 use lib.ListN.{length}
 use Rattle.titles.specs.Refusals.{accepted, outputShort, titleLong, notUtf8, outsideRepertoire, looseMark, maxBytes}
-use Rattle.titles.specs.Utf8.{ill, width, decode}
-use Rattle.titles.specs.Repertoire.{isMark}
-use Rattle.titles.specs.Compose.{Piece, bad, one, two, joined, pieces, accepts, text, fault, refusal, judged, Outcome, refusedWith, acceptedWith, outcome}
+use Rattle.unicode.specs.Utf8.{ill, width, decode}
+use Rattle.unicode.specs.Repertoire.{isMark}
+use Rattle.unicode.specs.Joining.{Piece, bad, one, two, joined, pieces, accepts}
+use Rattle.titles.specs.Compose.{text, fault, refusal, judged, Outcome, refusedWith, acceptedWith, outcome}
 use Rattle.titles.specs.Outcomes.{judged-accepts}
 use Rattle.titles.specs.declared.Composed.{Composed}
 

@@ -4,8 +4,8 @@ use mathlib.Core.List.{List, [], _∷_, map}
 use mathlib.Core.Path.{_≡_, refl}
 use lib.ListN.{replicate}
 use Rattle.bits.specs.Bits.{bitsIn, bitsOf, numOf, octets}
-use Rattle.titles.specs.Utf8.{width, within, low, high, tail, twoBytes, threeBytes, fourBytes, character, front, chars, decode}
-use Rattle.titles.specs.Repertoire.{member, marks, isMark, plain, allPlain}
+use Rattle.unicode.specs.Utf8.{width, within, low, high, tail, twoBytes, threeBytes, fourBytes, character, front, chars, decode}
+use Rattle.unicode.specs.Repertoire.{member, marks, isMark, plain, allPlain}
 use Rattle.titles.specs.Compose.{composedText}
 use Rattle.codec.specs.Reading.{readValue, readLeaf, readRest, readOne, readAll}
 use Rattle.slips.specs.declared.answer.Answer.{Answer}

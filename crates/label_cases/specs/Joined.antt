@@ -4,17 +4,17 @@ use mathlib.Core.List.{List, [], _∷_, map}
 use mathlib.Core.Path.{_≡_, refl}
 use lib.ListN.{length, replicate}
 use Rattle.bits.specs.Bits.{bitsIn, bitsOf, numOf, octets, packed}
-use Rattle.titles.specs.Utf8.{width, within, low, high, tail, twoBytes, threeBytes, fourBytes, character, front, chars, decode}
-use Rattle.titles.specs.Repertoire.{member, marks, isMark, plain, allPlain}
+use Rattle.unicode.specs.Utf8.{width, within, low, high, tail, twoBytes, threeBytes, fourBytes, character, front, chars, decode}
+use Rattle.unicode.specs.Repertoire.{member, marks, isMark, plain, allPlain}
 use Rattle.titles.specs.Compose.{composedText}
 use Rattle.codec.specs.Reading.{readValue, readLeaf, readRest, readOne, readAll}
 use Rattle.codec.specs.Writing.{leafBits, entryBits, allBits, slipBits, slipOf}
 use Rattle.slips.specs.Answers.{taken}
 use Rattle.slips.specs.Check.{paddingFits, settled, headerOf, bodyOf, checkOf}
-use Rattle.slips.specs.Columns.{over}
-use Rattle.slips.specs.Pack.{Packed}
-use Rattle.held.specs.Sent.{still, sent}
-use Rattle.join.specs.Join.{clashed, joinedOf, joinOf}
+use Rattle.slips.specs.Output.{over, Packed, still}
+use Rattle.send.specs.Sent.{sent}
+use Rattle.join_tables.specs.Joined.{clashed, joinedOf}
+use Rattle.join.specs.Join.{joinOf}
 use Rattle.label_cases.specs.Values.{copies, bytes, output}
 
 -- two slips and an output, and the outcome expected

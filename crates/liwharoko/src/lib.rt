@@ -5,7 +5,6 @@ use lookup::held::Spot;
 use lookup::holder;
 use prune::prune;
 use slips::answer::Answer;
-use slips::calls;
 use titles::Composed;
 ghost use mathlib.Core.Path.{_≡_};
 ghost use Rattle.sha2.specs.Sha256 as Sha256;
@@ -13,8 +12,9 @@ ghost use Rattle.titles.specs.Compose.{Met, composedText};
 ghost use Rattle.tables.specs.Tables.{table};
 ghost use Rattle.lookup.specs.Lookup.{lookup};
 ghost use Rattle.slips.specs.Check.{checkOf};
-ghost use Rattle.slips.specs.Pack.{Packs, packOf};
-ghost use Rattle.slips.specs.Unpack.{Leaves, unpackOf};
+ghost use Rattle.slips.specs.Output.{Packs};
+ghost use Rattle.pack.specs.Pack.{packOf};
+ghost use Rattle.unpack.specs.Unpack.{Leaves, unpackOf};
 ghost use Rattle.prune.specs.Prune.{pruneOf};
 ghost use Rattle.join.specs.Join.{joinOf};
 ghost use Rattle.liwharoko.specs.Parts.{partOf};
@@ -31,7 +31,7 @@ pub struct Part {
 pub extern "C" fn liwharoko_check(slip: &[u8]) -> Answer
     ensures { λ r. ⌜ r ≡ checkOf Sha256.label composedText (now (slip .entry)) ⌝ }
 {
-    calls::check(slip)
+    slips::check::check(slip)
 }
 
 #[no_mangle]
@@ -44,7 +44,7 @@ pub extern "C" fn liwharoko_pack(
 ) -> Answer
     ensures { λ r. ⌜ Packs (packOf Sha256.label composedText (table (now (types .entry)) (now (counts .entry)) (now (lengths .entry)) (now (values .entry))) (now (out .entry))) r (now (out .exit)) ⌝ }
 {
-    calls::pack(types, counts, lengths, values, out)
+    pack::pack(types, counts, lengths, values, out)
 }
 
 #[no_mangle]
@@ -57,7 +57,7 @@ pub extern "C" fn liwharoko_unpack(
 ) -> Answer
     ensures { λ r. ⌜ Leaves (unpackOf Sha256.label composedText (now (slip .entry)) (table (now (types .entry)) (now (counts .entry)) (now (lengths .entry)) (now (values .entry)))) r (now (types .exit)) (now (counts .exit)) (now (lengths .exit)) (now (values .exit)) ⌝ }
 {
-    calls::unpack(slip, types, counts, lengths, values)
+    unpack::unpack(slip, types, counts, lengths, values)
 }
 
 #[no_mangle]
