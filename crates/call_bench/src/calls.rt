@@ -1,6 +1,5 @@
 // The calls that a task may name.
 use slips::answer::Answer;
-use slips::calls;
 
 const CHECK: u16 = 0;
 
@@ -9,7 +8,7 @@ const PRUNE: u16 = 1;
 // Any other number is a join.
 pub fn answered(call: u16, s: &[u8], u: &[u8], list: &[u16], out: &mut [u8]) -> Answer {
     if call == CHECK {
-        return calls::check(s);
+        return slips::check::check(s);
     }
     if call == PRUNE {
         return prune::prune(s, list, out);

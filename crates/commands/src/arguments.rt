@@ -1,7 +1,6 @@
 // The numbers among the arguments.
 use crate::messages;
-use lines::fields;
-use lines::fields::Whole;
+use fields::Whole;
 use tables::limits::Slip;
 
 // Where the entries begin among the arguments, and one more of them than a slip has nodes.

@@ -1,10 +1,10 @@
 // A refusal in words, a line on standard error.
+use characters::utf8;
 use lines::page;
 use lines::parts;
 use titles::Composed;
 use titles::Refusal;
 use titles::Title;
-use titles::utf8;
 ghost use Prim.Native.Nat.{_<_};
 
 pub fn complain(line: usize, title: &[u8], r: Composed) {

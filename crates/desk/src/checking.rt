@@ -4,7 +4,6 @@ use commands::messages;
 use commands::refusals;
 use lines::page;
 use lines::reading::Got;
-use slips::calls;
 use tables::refusals::Refusal;
 ghost use Prim.Native.Nat.{_≤_};
 
@@ -60,7 +59,7 @@ fn file(text: &mut [u8; page::BYTES], from: usize, name: &[u8]) -> Line
             refused: 0,
         };
     };
-    let a = calls::check(files::front(&slip, n));
+    let a = slips::check::check(files::front(&slip, n));
     let label = a.label;
     let to = page::name(text, from, name);
     if a.number == Refusal::ACCEPTED {

@@ -2,11 +2,10 @@
 use commands::arguments;
 use commands::files;
 use commands::messages;
-use lines::fields::Whole;
+use fields::Whole;
 use lines::page;
 use lines::parts;
 use lines::reading::Got;
-use slips::calls;
 use slips::header;
 use table_text::writing;
 use tables::limits::Slip;
@@ -56,7 +55,7 @@ fn ended_by_slip(kind: u16, name: &[u8], slip: &[u8]) -> bool {
     let mut counts = [0u16; Slip::MAX_NODES];
     let mut lengths = [0u16; Slip::MAX_NODES];
     let mut values = [0u8; Slip::MAX_BYTES];
-    let a = calls::unpack(slip, &mut types, &mut counts, &mut lengths, &mut values);
+    let a = unpack::unpack(slip, &mut types, &mut counts, &mut lengths, &mut values);
     if a.number != Refusal::ACCEPTED {
         messages::refused(name, a.number, a.place);
         return true;

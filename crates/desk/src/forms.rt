@@ -4,11 +4,9 @@ use crate::tree;
 use commands::command::Command;
 use commands::files;
 use commands::messages;
-use lines::fields;
 use lines::page;
 use lines::parts;
 use lines::reading::Got;
-use slips::calls;
 use slips::header;
 use table_text::reading;
 use table_text::reading::Table;
@@ -45,7 +43,7 @@ fn unpack(name: &[u8], slip: &[u8]) {
     let mut counts = [0u16; Slip::MAX_NODES];
     let mut lengths = [0u16; Slip::MAX_NODES];
     let mut values = [0u8; Slip::MAX_BYTES];
-    let a = calls::unpack(slip, &mut types, &mut counts, &mut lengths, &mut values);
+    let a = unpack::unpack(slip, &mut types, &mut counts, &mut lengths, &mut values);
     if a.number != Refusal::ACCEPTED {
         messages::refused(name, a.number, a.place);
         return;
@@ -96,7 +94,7 @@ fn packed(
     let types = reading::column(cells, 0, rows);
     let counts = reading::column(cells, 1, rows);
     let lengths = reading::column(cells, 2, rows);
-    let a = calls::pack(
+    let a = pack::pack(
         types,
         counts,
         lengths,

@@ -2,10 +2,10 @@
 use lines::page;
 use slips::answer;
 use slips::answer::Answer;
-use slips::areas::Full;
 use slips::header;
 use slips::open;
 use table_text::drawing;
+use tables::areas::Full;
 use tables::limits::Slip;
 use tables::refusals::Refusal;
 ghost use mathlib.Core.Path.{_≡_};
@@ -35,10 +35,6 @@ fn opened(s: &[u8], n: usize) -> Answer
     let mut counts = [0u16; Slip::MAX_NODES];
     let mut lengths = [0u16; Slip::MAX_NODES];
     let mut values = [0u8; Slip::MAX_BYTES];
-    let mut kinds = [0u16; Slip::MAX_NODES];
-    let mut heights = [0u16; Slip::MAX_NODES];
-    let mut sizes = [0u16; Slip::MAX_NODES];
-    let mut work = [0u8; Full::WORK];
     let mut labels = [0u8; Full::LABELS];
     let o = open::open_in(
         s,
@@ -47,10 +43,6 @@ fn opened(s: &[u8], n: usize) -> Answer
         &mut counts,
         &mut lengths,
         &mut values,
-        &mut kinds,
-        &mut heights,
-        &mut sizes,
-        &mut work,
         &mut labels,
     );
     let a = o.answer;

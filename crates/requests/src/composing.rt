@@ -1,7 +1,6 @@
 // The title composer.
 use crate::answer;
 use crate::room;
-use lines::fields;
 use lines::page;
 use lines::parts;
 

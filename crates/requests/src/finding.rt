@@ -1,6 +1,5 @@
 // The lookup in two records.
 use crate::answer;
-use lines::fields;
 use lines::page;
 
 // find TYPE, and of each record TYPES COUNTS LENGTHS VALUES: the answer has the record that holds it and the value

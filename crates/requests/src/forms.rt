@@ -1,10 +1,8 @@
 // The calls between a slip and its table: check, pack, unpack.
 use crate::answer;
 use crate::room;
-use lines::fields;
 use lines::page;
 use lines::parts;
-use slips::calls;
 
 // check SLIP
 pub fn check(
@@ -13,7 +11,7 @@ pub fn check(
     text: &mut [u8; page::BYTES],
     at: usize,
 ) -> usize {
-    let a = calls::check(fields::text(bytes, ends, 0));
+    let a = slips::check::check(fields::text(bytes, ends, 0));
     let to = answer::head(text, at, a);
     page::byte(text, to, b'\n')
 }
@@ -43,7 +41,7 @@ fn packed(
     let counts = fields::column(cells, ends, 1);
     let lengths = fields::column(cells, ends, 2);
     let values = fields::text(bytes, ends, 3);
-    let a = calls::pack(types, counts, lengths, values, out);
+    let a = pack::pack(types, counts, lengths, values, out);
     answer::slip(text, at, a, out)
 }
 
@@ -84,7 +82,7 @@ fn unpacked(
     text: &mut [u8; page::BYTES],
     from: usize,
 ) -> usize {
-    let a = calls::unpack(slip, types, counts, lengths, values);
+    let a = unpack::unpack(slip, types, counts, lengths, values);
     let mut at = answer::head(text, from, a);
     at = answer::column(text, at, types);
     at = answer::column(text, at, counts);

@@ -1,7 +1,6 @@
 // The calls that make a slip of slips: prune and join.
 use crate::answer;
 use crate::room;
-use lines::fields;
 use lines::page;
 use lines::parts;
 

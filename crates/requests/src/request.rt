@@ -8,7 +8,6 @@ use crate::forms;
 use crate::making;
 use crate::showing;
 use bytes::scan;
-use lines::fields;
 use lines::page;
 use lines::parts;
 

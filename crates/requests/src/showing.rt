@@ -1,5 +1,4 @@
 // What the program `show` prints.
-use lines::fields;
 use lines::page;
 use lines::parts;
 

@@ -2,7 +2,6 @@
 use lines::page;
 use lines::parts;
 use slips::answer::Answer;
-use slips::calls;
 use slips::header;
 use tables::limits::Slip;
 use tables::refusals::Refusal;
@@ -12,7 +11,7 @@ pub fn slip(text: &mut [u8; page::BYTES], from: usize, slip: &[u8]) -> usize {
     let mut counts = [0u16; Slip::MAX_NODES];
     let mut lengths = [0u16; Slip::MAX_NODES];
     let mut values = [0u8; Slip::MAX_BYTES];
-    let a = calls::unpack(slip, &mut types, &mut counts, &mut lengths, &mut values);
+    let a = unpack::unpack(slip, &mut types, &mut counts, &mut lengths, &mut values);
     if a.number != Refusal::ACCEPTED {
         return refused(text, from, a);
     }

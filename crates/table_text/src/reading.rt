@@ -2,9 +2,8 @@
 use crate::faults;
 use crate::faults::Fault;
 use bytes::scan;
-use lines::fields;
-use lines::fields::Put;
-use lines::fields::Whole;
+use fields::Put;
+use fields::Whole;
 use lines::parts;
 use tables::limits::Slip;
 ghost use Prim.Native.Nat.{_<_};
