@@ -5,49 +5,86 @@ use lines::parts;
 use titles::Composed;
 use titles::Refusal;
 use titles::Title;
-ghost use Prim.Native.Nat.{_≤_};
+ghost use Prim.Native.Nat.{_+_, _≤_};
 ghost use lib.ListN.{length};
 
-// The longest answer: `composed `, a title and a line feed.
-const ROOM: usize = Title::MAX_BYTES + 10;
+// The bytes of `composed `, and the longest answer: that, a title and a line feed.
+const WORD: usize = 9;
 
-// The title is composed where its bytes are to stand, since a refusal writes nothing.
+const ROOM: usize = WORD + Title::MAX_BYTES + 1;
+
 pub fn put(
     title: &[u8],
     line: usize,
     text: &mut [u8; page::BYTES],
     at: usize,
-    bare: bool,
+    is_bare: bool,
 ) -> usize {
+    if is_bare {
+        return alone(title, line, text, at);
+    }
+    named(title, text, at)
+}
+
+// `composed` and the title, or `refused`, the number and the place. The title is composed where its bytes are to stand,
+// since a refusal writes nothing.
+fn named(title: &[u8], text: &mut [u8; page::BYTES], at: usize) -> usize {
     let from = page::room(text, at, ROOM);
-    let to = begun(text, from, bare);
+    if page::BYTES - ROOM < from {
+        return page::BROKEN;
+    }
+    let r = composed(title, text, from);
+    if r.number != Refusal::NONE {
+        return refused(text, from, r);
+    }
+    ended(text, from + WORD, r.length)
+}
+
+fn composed(title: &[u8], text: &mut [u8], from: usize) -> Composed
+    requires { ⌜ from + 9 ≤ length (now text) ⌝ }
+{
+    bytes::copy(b"composed ", &mut text[from..]);
+    let to = from + WORD;
+    titles::compose(title, &mut text[to..])
+}
+
+// The title alone, or its refusal in words.
+fn alone(title: &[u8], line: usize, text: &mut [u8; page::BYTES], at: usize) -> usize {
+    let to = page::room(text, at, ROOM);
     if page::BYTES < to {
         return page::BROKEN;
     }
-    let r = composed(title, text, to);
-    if r.number == Refusal::NONE {
-        let end = parts::end(text, to, r.length);
-        return page::byte(text, end, b'\n');
+    let r = bare(title, text, to);
+    if r.number != Refusal::NONE {
+        return told(text, to, line, title, r);
     }
-    if bare {
-        let end = page::flush(text, from);
-        words::complain(line, title, r);
-        return end;
-    }
-    refused(text, from, r)
+    ended(text, to, r.length)
 }
 
-fn begun(text: &mut [u8; page::BYTES], from: usize, bare: bool) -> usize {
-    if bare {
-        return from;
-    }
-    page::word(text, from, b"composed ")
-}
-
-fn composed(title: &[u8], text: &mut [u8], to: usize) -> Composed
+fn bare(title: &[u8], text: &mut [u8], to: usize) -> Composed
     requires { ⌜ to ≤ length (now text) ⌝ }
 {
     titles::compose(title, &mut text[to..])
+}
+
+fn ended(text: &mut [u8; page::BYTES], to: usize, n: usize) -> usize {
+    let end = parts::end(text, to, n);
+    page::byte(text, end, b'\n')
+}
+
+// Writes out the titles before a refused one, and says on the page that is empty then why it is refused.
+fn told(
+    text: &mut [u8; page::BYTES],
+    from: usize,
+    line: usize,
+    title: &[u8],
+    r: Composed,
+) -> usize {
+    let to = page::flush(text, from);
+    if to == 0 {
+        words::complain(text, line, title, r);
+    }
+    to
 }
 
 fn refused(text: &mut [u8; page::BYTES], from: usize, r: Composed) -> usize {

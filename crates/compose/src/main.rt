@@ -52,19 +52,23 @@ fn turn(
         return page::flush(text, to);
     }
     let whole = parts::bytes(area, r.from, r.to);
-    let from = if line == 1 { behind_mark(whole) } else { 0 };
-    let end = if r.over {
-        whole.len()
-    } else {
-        before_return(whole)
-    };
-    if r.over && from == end {
-        return to;
+    let title = parts::bytes(whole, 0, end_of(whole, r.over));
+    if line == 1 {
+        return first(title, r.over, text, to, bare);
     }
-    answers::put(parts::bytes(whole, from, end), line, text, to, bare)
+    answers::put(title, line, text, to, bare)
 }
 
-// Where the title starts in the first line.
+// The first title. Where the input is a byte order mark alone, there is none.
+fn first(line: &[u8], last: bool, text: &mut [u8; page::BYTES], to: usize, bare: bool) -> usize {
+    let from = behind_mark(line);
+    let title = parts::bytes(line, from, line.len());
+    if last && title.len() == 0 {
+        return to;
+    }
+    answers::put(title, 1, text, to, bare)
+}
+
 fn behind_mark(line: &[u8]) -> usize {
     if check::same(parts::bytes(line, 0, 3), b"\xEF\xBB\xBF") {
         return 3;
@@ -72,10 +76,10 @@ fn behind_mark(line: &[u8]) -> usize {
     0
 }
 
-// Where it ends in a line that a line feed ends.
-fn before_return(line: &[u8]) -> usize {
+// Where the title ends in a line: before the carriage return, if a line feed is behind it.
+fn end_of(line: &[u8], last: bool) -> usize {
     let n = line.len();
-    if 0 < n {
+    if 0 < n && !last {
         if line[n - 1] == b'\r' {
             return n - 1;
         }

@@ -7,13 +7,12 @@ use titles::Refusal;
 use titles::Title;
 ghost use Prim.Native.Nat.{_<_};
 
-pub fn complain(line: usize, title: &[u8], r: Composed) {
-    let mut text = [0u8; page::BYTES];
-    let mut to = begun(&mut text, line);
-    to = placed(&mut text, to, r);
-    to = reason(&mut text, to, title, r);
-    to = page::byte(&mut text, to, b'\n');
-    page::complain(&text, to);
+pub fn complain(text: &mut [u8; page::BYTES], line: usize, title: &[u8], r: Composed) {
+    let mut to = begun(text, line);
+    to = placed(text, to, r);
+    to = reason(text, to, title, r);
+    to = page::byte(text, to, b'\n');
+    page::complain(text, to);
 }
 
 fn begun(text: &mut [u8; page::BYTES], line: usize) -> usize {
