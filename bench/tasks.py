@@ -5,7 +5,7 @@ makes of them.
 """
 import hashlib, os, random, subprocess
 
-from slips import KINDS, bits, damaged, entries, internal, packed, pair, record, slips
+from slips import KINDS, bits_of, damaged, internal, leaf, packed, record, rows_of, salt, slips
 
 CHECK, PRUNE, JOIN = range(3)
 ROOM = 65535
@@ -27,30 +27,23 @@ class Tree:
         self.rows, self.firsts, self.labels = rows, [], []
         waiting = []
         for i, row in enumerate(rows):
-            below = waiting[-self.children(i) :] if self.children(i) else []
-            del waiting[len(waiting) - len(below) :]
+            below = waiting[len(waiting) - row.children :]
+            del waiting[len(waiting) - row.children :]
             self.firsts.append(self.firsts[below[0]] if below else i)
             self.labels.append(self.label(row, below))
             waiting.append(i)
 
-    def children(self, i):
-        return int(self.rows[i][1:6], 2) + 1 if self.rows[i][0] == "1" else 0
-
-    def type(self, i):
-        return 0 if self.rows[i][0] == "1" else int(self.rows[i][1:11], 2)
-
     def label(self, row, below):
         if not below:
-            value = row[11:] if row[1:11] == bits(0, 10) else row[20:]
-            return int("1" + value, 2).to_bytes(len(value) // 8 + 1, "big")[1:]
+            return row.value
         digest = hashlib.sha256()
         for i in below:
             label = self.labels[i]
-            digest.update(self.type(i).to_bytes(2, "big") + len(label).to_bytes(2, "big") + label)
+            digest.update(self.rows[i].type.to_bytes(2, "big") + len(label).to_bytes(2, "big") + label)
         return digest.digest()
 
     def internals(self):
-        return [i for i, row in enumerate(self.rows) if row[0] == "1"]
+        return [i for i, row in enumerate(self.rows) if row.children]
 
     def pruned(self, names):
         """The slip with the named nodes dangling."""
@@ -58,7 +51,7 @@ class Tree:
         while end:
             end -= 1
             if end in names:
-                left.append("0" + bits(0, 10) + "".join(bits(b, 8) for b in self.labels[end]))
+                left.append(leaf(0, self.labels[end]))
                 end = self.firsts[end]
             else:
                 left.append(self.rows[end])
@@ -77,8 +70,8 @@ def faulty(rng, names, rows):
 
 def wide(rng):
     """A node of many pairs whose values are empty: many rows in few bytes."""
-    pairs = [pair(rng.randint(2, 1023), b"") for _ in range(rng.randint(20, 31))]
-    return internal([[pair(1, rng.randbytes(32))], *([p] for p in pairs)])
+    pairs = [leaf(rng.randint(2, 1023), b"") for _ in range(rng.randint(20, 31))]
+    return internal([[salt(rng)], *([p] for p in pairs)])
 
 
 def grove(rng, kind):
@@ -87,7 +80,7 @@ def grove(rng, kind):
         return internal([internal([wide(rng) for _ in range(rng.randint(5, 25))]) for _ in range(2)])
     if kind == "heavy":
         return internal([record(rng, 1400) for _ in range(rng.randint(20, 32))])
-    return entries(rng, kind)
+    return rows_of(rng, kind)
 
 
 def kinds(rng):
@@ -95,7 +88,7 @@ def kinds(rng):
 
 
 def fits(rows):
-    return len(rows) <= 1023 and sum(map(len, rows)) + 16 <= 8 * 32768
+    return len(rows) <= 1023 and bits_of(rows) + 16 <= 8 * 32768
 
 
 def mixed(rng, count):
@@ -112,7 +105,7 @@ def mixed(rng, count):
         if n % 20 == 0:
             yield task(CHECK, hurt[0])
         elif n % 2:
-            other = packed(entries(rng, "title")) if rng.random() < 0.03 else hurt[1]
+            other = packed(rows_of(rng, "title")) if rng.random() < 0.03 else hurt[1]
             yield task(JOIN, hurt[0], other, room=room)
         elif fits(tree.rows):
             names = some(rng, tree, share)

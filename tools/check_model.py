@@ -1,7 +1,8 @@
 #!/usr/bin/env python3
 """A model of the check, from document 01 alone: plain Python, no limit read from the crates.
 
-Run as `tools/check_model.py CASES.jsonl` it puts the file's check cases to the model and says how many agree.
+As a program, run in the repository's root, it puts the check cases of data/cases.jsonl to the model and says how many
+differ.
 """
 import hashlib, json, sys
 from collections import namedtuple
@@ -104,7 +105,7 @@ def check(slip):
 
 
 def main():
-    cases = [json.loads(line) for line in open(sys.argv[1])]
+    cases = [json.loads(line) for line in open("data/cases.jsonl")]
     cases = [c for c in cases if c["call"] == "check" and not c.get("label")]
     wrong = 0
     for c in cases:
