@@ -1,5 +1,5 @@
 // The answers to two slips before they are joined.
-use join_rows::heads::same;
+use columns::heads::same;
 use slips::answer;
 use slips::answer::Answer;
 use tables::refusals::Refusal;

@@ -7,11 +7,12 @@ use native.Mathlib.Omega.{arith}
 use lib.ListN.{getD}
 use Rattle.trees.specs.Nodes.{Head}
 use Rattle.trees.specs.Join.{join}
-use Rattle.join_rows.specs.declared.walk.Meeting.{Meeting}
-use Rattle.join_rows.specs.declared.walk.Meeting.the-variants.{Clash, Take, Both}
+use Rattle.columns.specs.declared.meet.Meeting.{Meeting}
+use Rattle.columns.specs.declared.meet.Meeting.the-variants.{Clash, Take, Both}
 use Rattle.join_rows.specs.declared.walk.Walked.{Walked}
-use Rattle.join_rows.specs.Columns.{headAt}
-use Rattle.join_rows.specs.Walks.{meetingAt, Put, Said, NodeWalk, RunWalk}
+use Rattle.columns.specs.Columns.{headAt}
+use Rattle.columns.specs.Meetings.{meetingAt}
+use Rattle.join_rows.specs.Walks.{Put, Said, NodeWalk, RunWalk}
 use Rattle.join_rows.specs.Meets.{meets, clash-said, take-said, both-said}
 
 module _ (types counts lengths values labels starts offsets : List ℕ) where

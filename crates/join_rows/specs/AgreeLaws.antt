@@ -11,7 +11,7 @@ use Rattle.trees.specs.Tests.{and-left, and-right, and-both}
 use Rattle.trees.specs.Nodes.{Head, prelabel}
 use Rattle.trees.specs.NodesLaws.{prelabel-inj}
 use Rattle.join_rows.specs.Lists.{backwards, backwards-inj, length-backwards}
-use Rattle.join_rows.specs.Columns.{sameHead, agree}
+use Rattle.columns.specs.Columns.{sameHead, agree}
 
 -- heads that agree are equal, and back
 agree-true : (xs ys : List Head) → length xs ≡ length ys → agree xs ys ≡ true → xs ≡ ys

@@ -11,7 +11,7 @@ use Rattle.trees.specs.Join.{clash, join}
 use Rattle.trees.specs.Rows.{rows}
 use Rattle.tables.specs.Tables.{entries, rowFits, firstBad, sum}
 use Rattle.tables.specs.Records.{Holds}
-use Rattle.join_rows.specs.Columns.{back}
+use Rattle.columns.specs.Columns.{back}
 use Rattle.join_rows.specs.Plans.{Two}
 
 -- "Under a label of 32 copies of prelabel length modulo 256"

@@ -13,9 +13,9 @@ use Rattle.tables.specs.Tables.{sum}
 use Rattle.tables.specs.TablesLaws.{sum-append, sum-part}
 use Rattle.join_rows.specs.Lists.{Names}
 use Rattle.join_rows.specs.Faces.{Face, noFace, bytesOfFace, faces}
-use Rattle.join_rows.specs.Columns.{valueAt, Surveyed}
+use Rattle.columns.specs.Columns.{valueAt, Surveyed}
 use Rattle.join_rows.specs.Plans.{Two}
-use Rattle.join_rows.specs.Gathers.{cellOf, valuesOf, InRange, Gatherable}
+use Rattle.columns.specs.Gathers.{cellOf, valuesOf, InRange, Gatherable}
 use Rattle.join_rows.specs.JoinWeight.{Light, join-light}
 use Rattle.join_rows.specs.TablesLaws.{Shows, shows-as, shown-bytes}
 use Rattle.join_rows.specs.TwoLaws.{row-shows, all-faces, counts-long, lengths-long, values-room, two-ready}

@@ -1,9 +1,7 @@
 -- The join of two tables. Definitions, in reading order:
 pub mod Faces
-pub mod Columns
 pub mod Walks
 pub mod Plans
-pub mod Gathers
 -- What the plan asks, met:
 pub mod Examples
 -- Laws:

@@ -13,11 +13,6 @@ abbrev pub upto : ℕ → ℕ → List ℕ
 upto a zero = []
 upto a (suc n) = a ∷ upto (suc a) n
 
--- the lists end to end
-abbrev pub concat {ℓ} : {A : Type ℓ} → List (List A) → List A
-concat [] = []
-concat (x ∷ xs) = x ++ concat xs
-
 -- the last element first
 abbrev pub backwards {ℓ} : {A : Type ℓ} → List A → List A
 backwards [] = []

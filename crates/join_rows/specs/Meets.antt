@@ -14,14 +14,15 @@ use Rattle.trees.specs.NodesLaws.{prelabel-inj}
 use Rattle.trees.specs.StackLaws.{length-heads}
 use Rattle.trees.specs.Join.{join, joinRun}
 use Rattle.trees.specs.JoinLaws.{join-run-good}
-use Rattle.join_rows.specs.declared.walk.Meeting.{Meeting}
-use Rattle.join_rows.specs.declared.walk.Meeting.the-variants.{Clash, Take, Both}
+use Rattle.columns.specs.declared.meet.Meeting.{Meeting}
+use Rattle.columns.specs.declared.meet.Meeting.the-variants.{Clash, Take, Both}
 use Rattle.join_rows.specs.declared.walk.Walked.{Walked}
 use Rattle.join_rows.specs.Lists.{backwards, At}
 use Rattle.join_rows.specs.Faces.{Face, noFace, countOfFace, faces, facesIn, root}
 use Rattle.join_rows.specs.FacesLaws.{length-faces}
-use Rattle.join_rows.specs.Columns.{headAt, headsBack, agree}
-use Rattle.join_rows.specs.Walks.{meetingAt, Put, Reads, Placed, Said, SaidRun}
+use Rattle.columns.specs.Columns.{headAt, headsBack, agree}
+use Rattle.columns.specs.Meetings.{meetingAt}
+use Rattle.join_rows.specs.Walks.{Put, Reads, Placed, Said, SaidRun}
 use Rattle.join_rows.specs.StartsLaws.{root-last, inner-at, children-at, count-at, start-node, heads-run}
 use Rattle.join_rows.specs.WalksLaws.{placed-put, node-wraps}
 use Rattle.join_rows.specs.AgreeLaws.{agree-same, unequal}

@@ -14,7 +14,7 @@ use Rattle.join_rows.specs.declared.walk.Walked.{Walked}
 use Rattle.join_rows.specs.Lists.{At, at-part, Names}
 use Rattle.join_rows.specs.Faces.{Face, noFace, faces}
 use Rattle.join_rows.specs.FacesLaws.{length-faces}
-use Rattle.join_rows.specs.Columns.{Surveyed}
+use Rattle.columns.specs.Columns.{Surveyed}
 use Rattle.join_rows.specs.Walks.{Placed, Said, NodeWalk}
 use Rattle.join_rows.specs.Plans.{Two, PlannedAs}
 use Rattle.join_rows.specs.StartsLaws.{root-last}

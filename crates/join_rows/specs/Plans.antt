@@ -13,7 +13,7 @@ use Rattle.tables.specs.Records.{Holds}
 use Rattle.join_rows.specs.declared.plan.Planned.{Planned}
 use Rattle.join_rows.specs.Lists.{Names}
 use Rattle.join_rows.specs.Faces.{noFace, faces}
-use Rattle.join_rows.specs.Columns.{Surveyed}
+use Rattle.columns.specs.Columns.{Surveyed}
 
 -- the tables of two trees stand end to end in the columns, the second from row `first` on; its values follow the first's
 pub record Two (H : List ℕ → List ℕ) (a b : Node) (first : ℕ) (types counts lengths values labels : List ℕ) : Type 0 where

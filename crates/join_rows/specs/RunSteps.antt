@@ -6,18 +6,19 @@ use Prim.Native.Nat.{ℕ, _+_, _-_, _<_}
 use native.Mathlib.Omega.{arith}
 use lib.Dec.{eqb}
 use lib.ListN.{length, getD}
-use borrow.Author.Tests.{eqb-true, eqb-false}
+use borrow.Author.Tests.{eqb-true}
 use Rattle.trees.specs.Lists.{append-cancel, nil-cons}
-use Rattle.trees.specs.Tests.{or-left, or-right, or-cases}
+use Rattle.trees.specs.Tests.{or-cases}
 use Rattle.trees.specs.Nodes.{Node, Run, inner, leaf, nil, cons, count, size, sizes, heads}
 use Rattle.trees.specs.StackLaws.{length-heads}
 use Rattle.trees.specs.Join.{join, joinRun}
+use Rattle.columns.specs.Columns.{noneLeft}
 use Rattle.join_rows.specs.declared.walk.Walked.{Walked}
 use Rattle.join_rows.specs.Lists.{At, at-front, at-back}
 use Rattle.join_rows.specs.Faces.{Face, noFace, faces, facesIn, root}
 use Rattle.join_rows.specs.FacesLaws.{length-faces-in}
 use Rattle.join_rows.specs.Runs.{snoc, ended, count-snoc, sizes-snoc, heads-snoc, faces-snoc}
-use Rattle.join_rows.specs.Walks.{noneLeft, earlierOf, Reads, Said, SaidRun}
+use Rattle.join_rows.specs.Walks.{earlierOf, Reads, Said, SaidRun}
 use Rattle.join_rows.specs.StartsLaws.{root-last, start-node}
 use Rattle.join_rows.specs.WalksLaws.{run-more}
 use Rattle.join_rows.specs.Meets.{RunsSaid}
@@ -34,14 +35,6 @@ no-count (cons n r) e = absurd (omega arith)
 no-size : (r : Run) → sizes r ≡ 0 → r ≡ nil
 no-size nil e = refl
 no-size (cons n r) e = absurd (omega (arith, some-node n))
-
--- children are left
-pub some-left : (k e f : ℕ) → noneLeft k e f ≡ false → (k ≡ 0 → ⊥) × (e ≡ 0 → ⊥) × (f ≡ 0 → ⊥)
-some-left k e f h = (
-  eqb-false k 0 (or-left (eqb k 0) _ h),
-  eqb-false e 0 (or-left (eqb e 0) (eqb f 0) (or-right (eqb k 0) _ h)),
-  eqb-false f 0 (or-right (eqb e 0) (eqb f 0) (or-right (eqb k 0) _ h)),
-)
 
 pub earlier-at : (front last : Walked) → earlierOf front last .at ≡ front .at
 earlier-at front last = go (front .clash)

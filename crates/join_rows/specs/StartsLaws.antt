@@ -10,7 +10,7 @@ use Rattle.trees.specs.StackLaws.{length-heads}
 use Rattle.join_rows.specs.Lists.{backwards, At, at-front, at-back}
 use Rattle.join_rows.specs.Faces.{Face, ofInner, noFace, countOfFace, headOfFace, faces, facesIn, root}
 use Rattle.join_rows.specs.FacesLaws.{length-faces, length-faces-in}
-use Rattle.join_rows.specs.Columns.{back, headsBack}
+use Rattle.columns.specs.Columns.{back, headsBack}
 
 -- a tree's root is its last row
 pub root-last : (b : ℕ) (n : Node) → suc (root b n) ≡ b + size n

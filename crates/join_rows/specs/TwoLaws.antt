@@ -14,7 +14,7 @@ use Rattle.tables.specs.Tables.{sum}
 use Rattle.tables.specs.TablesLaws.{sum-append, sum-part}
 use Rattle.join_rows.specs.Faces.{noFace, faces}
 use Rattle.join_rows.specs.FacesLaws.{length-faces}
-use Rattle.join_rows.specs.Columns.{Surveyed, Ready}
+use Rattle.columns.specs.Columns.{Surveyed, Ready}
 use Rattle.join_rows.specs.Walks.{Reads}
 use Rattle.join_rows.specs.TablesLaws.{Shows, shows-as, table-shows, table-long, shown-count, shown-full, shown-head}
 use Rattle.join_rows.specs.Plans.{Two}

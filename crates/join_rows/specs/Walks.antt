@@ -1,33 +1,16 @@
 -- What the walk of two trees in step answers: the first clash, or a plan of the join's rows.
 use mathlib.Core.Path.{_≡_}
-use mathlib.Core.Bool.{Bool, true, false, cond, _||_}
+use mathlib.Core.Bool.{true, false, cond}
 use mathlib.Core.List.{List, _++_}
 use Prim.Native.Nat.{ℕ, _+_, _-_, _≤_, _<_}
-use lib.Dec.{eqb}
 use lib.ListN.{length, drop, getD}
 use Rattle.trees.specs.Nodes.{Node, Run, count, size, sizes, Head, heads}
 use Rattle.trees.specs.Join.{Joint, ok, clash, JointRun, okRun, clashAt, join, joinRun}
 use Rattle.trees.specs.Rows.{number, numberIn}
-use Rattle.join_rows.specs.declared.walk.Meeting.{Meeting}
-use Rattle.join_rows.specs.declared.walk.Meeting.the-variants.{Clash, Take, Both}
 use Rattle.join_rows.specs.declared.walk.Walked.{Walked}
 use Rattle.join_rows.specs.Lists.{upto, At, Names}
 use Rattle.join_rows.specs.Faces.{Face, ofInner, noFace, countOfFace, headOfFace, faces, facesIn, root}
-use Rattle.join_rows.specs.Columns.{back, headsBack, agree, headAt}
-
--- how two rows meet: at a leaf the other's subtree is taken, and the first's leaf where both are leaves;
--- "a clash is a shared place, internal in both, where the prelabels differ"
-abbrev pub meetingAt : (ℕ → Head) → List ℕ → List ℕ → ℕ → ℕ → Meeting
-meetingAt head counts starts i j =
-    cond (eqb (getD counts j 0) 0) (Take i)
-    (cond (eqb (getD counts i 0) 0) (Take j)
-    (cond (eqb (getD counts i 0) (getD counts j 0))
-    (cond (agree (headsBack head starts (getD counts i 0) i) (headsBack head starts (getD counts i 0) j)) Both Clash)
-    Clash))
-
--- no child is left, or no row before it
-abbrev pub noneLeft : ℕ → ℕ → ℕ → Bool
-noneLeft k e f = eqb k 0 || (eqb e 0 || eqb f 0)
+use Rattle.columns.specs.Columns.{back, headAt}
 
 -- "first clash in this order: .. all of its first child's subtree, then the next child's"
 abbrev pub earlierOf : Walked → Walked → Walked

@@ -1,19 +1,14 @@
 // The two trees walked backwards in step, from their roots, the last child first.
-use crate::heads::same_heads;
+use columns::heads::none_left;
+use columns::meet::Meeting;
+use columns::meet::meet;
 use tables::form::cell;
 ghost use mathlib.Core.Path.{_≡_};
 ghost use mathlib.Core.Bool.{true, false};
 ghost use Prim.Native.Nat.{_≤_, _<_};
 ghost use lib.ListN.{length};
-ghost use Rattle.join_rows.specs.Columns.{headAt, Ready};
-ghost use Rattle.join_rows.specs.Walks.{meetingAt, noneLeft, earlierOf, Put, NodeWalk, RunWalk};
-
-// What two shared nodes call for: a clash, all rows of one of them, or the join of their runs.
-pub enum Meeting {
-    Clash,
-    Take(usize),
-    Both,
-}
+ghost use Rattle.columns.specs.Columns.{Ready};
+ghost use Rattle.join_rows.specs.Walks.{earlierOf, Put, NodeWalk, RunWalk};
 
 // A clash and its two rows, or the first cell of the plan that is written.
 pub struct Walked {
@@ -63,49 +58,6 @@ fn put(plan: &mut [usize], at: usize, from: usize, to: usize) -> usize
     low
 }
 
-// How two nodes meet, at rows `i` and `j`.
-fn meet<'a>(
-    types: &[u16],
-    counts: &[u16],
-    lengths: &[u16],
-    values: &'a [u8],
-    labels: &'a [u8],
-    starts: &[usize],
-    offsets: &[usize],
-    i: usize,
-    j: usize,
-) -> Meeting
-    requires { ⌜ Ready (now types) (now counts) (now lengths) (now values) (now labels) (now starts) (now offsets) × (i < length (now types)) × (j < length (now types)) ⌝ }
-    ensures { λ r. ⌜ r ≡ meetingAt (headAt (now (types .entry)) (now (counts .entry)) (now (lengths .entry)) (now (values .entry)) (now (labels .entry)) (now (offsets .entry))) (now (counts .entry)) (now (starts .entry)) i j ⌝ }
-{
-    let a = cell(counts, i);
-    let b = cell(counts, j);
-    if b == 0 {
-        return Meeting::Take(i);
-    }
-    if a == 0 {
-        return Meeting::Take(j);
-    }
-    if a != b {
-        return Meeting::Clash;
-    }
-    if same_heads(
-        types,
-        counts,
-        lengths,
-        values,
-        labels,
-        starts,
-        offsets,
-        a,
-        i,
-        j,
-    ) {
-        return Meeting::Both;
-    }
-    Meeting::Clash
-}
-
 // The clash in front comes first.
 fn earlier(front: Walked, last: Walked) -> Walked
     ensures { λ r. ⌜ r ≡ earlierOf front last ⌝ }
@@ -119,19 +71,6 @@ fn earlier(front: Walked, last: Walked) -> Walked
         second: last.second,
         at: front.at,
     }
-}
-
-// No child is left before row `e` and row `f`.
-fn none_left(count: usize, e: usize, f: usize) -> bool
-    ensures { λ r. ⌜ r ≡ noneLeft count e f ⌝ }
-{
-    if count == 0 {
-        return true;
-    }
-    if e == 0 {
-        return true;
-    }
-    f == 0
 }
 
 // "The join of a node is made from its run of children": the nodes at rows `i` and `j`, in front of cell `at`.

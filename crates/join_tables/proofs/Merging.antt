@@ -18,13 +18,13 @@ use Rattle.tables.specs.Refusals.{joinTooLarge}
 use Rattle.codec.specs.Writing.{slipOf}
 use Rattle.sha2.specs.Sha256 as Sha256
 use Rattle.join_rows.specs.declared.plan.Planned.{Planned}
-use Rattle.join_rows.specs.declared.gather.Gathered.{Gathered}
+use Rattle.columns.specs.declared.gather.Gathered.{Gathered}
 use Rattle.join_rows.specs.Lists.{Names, names-length}
 use Rattle.join_rows.specs.Faces.{noFace, faces}
 use Rattle.join_rows.specs.FacesLaws.{length-faces}
-use Rattle.join_rows.specs.Columns.{Surveyed}
+use Rattle.columns.specs.Columns.{Surveyed}
 use Rattle.join_rows.specs.Plans.{Two, PlannedAs}
-use Rattle.join_rows.specs.Gathers.{cellOf, valuesOf, Gathers}
+use Rattle.columns.specs.Gathers.{cellOf, valuesOf, Gathers}
 use Rattle.join_rows.specs.JoinTable.{planned-table, join-room, join-gathering}
 use Rattle.join_rows.specs.TwoLaws.{first-low, values-room}
 use Rattle.slips.specs.declared.answer.Answer.{Answer}
@@ -32,7 +32,7 @@ use Rattle.slips.specs.Answers.{refused}
 use Rattle.slips.specs.Output.{Packs}
 use Rattle.send.specs.Sent.{sentTree}
 use Rattle.join_tables.specs.Joined.{clashed, joinedOf}
-use Rattle.join_tables.specs.Contracts.{fitted, DeliverGives, GatherAsks, MergeAsks, MergeGives}
+use Rattle.join_tables.specs.Contracts.{fitted, GatherAsks, MergeAsks}
 
 -- "15, 11", by the size
 module _ (H : List ℕ → List ℕ) (n : Node) (out : List ℕ) where

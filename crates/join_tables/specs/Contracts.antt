@@ -1,5 +1,5 @@
 -- What the parts of the join of two tables ask and give.
-use Prim.Native.Nat.{ℕ, _+_, _*_, _≤_}
+use Prim.Native.Nat.{ℕ, _*_, _≤_}
 use mathlib.Core.Bool.{cond}
 use mathlib.Core.List.{List, map}
 use mathlib.Core.Path.{_≡_}
@@ -15,7 +15,7 @@ use Rattle.tables.specs.Tables.{sum}
 use Rattle.codec.specs.Writing.{slipOf}
 use Rattle.sha2.specs.Sha256 as Sha256
 use Rattle.join_rows.specs.Plans.{Two}
-use Rattle.join_rows.specs.Gathers.{cellOf, valuesOf, Gatherable}
+use Rattle.columns.specs.Gathers.{cellOf, valuesOf, Gatherable}
 use Rattle.slips.specs.declared.answer.Answer.{Answer}
 use Rattle.slips.specs.Answers.{refused}
 use Rattle.slips.specs.Output.{Packed, Packs, still}

@@ -2,7 +2,7 @@
 use crate::areas::FullPair;
 use crate::areas::SmallPair;
 use codec::measure;
-use join_rows::gather;
+use columns::gather;
 use slips::answer;
 use slips::answer::Answer;
 use tables::limits::Slip;
@@ -10,7 +10,7 @@ use tables::refusals::Refusal;
 ghost use Prim.Native.Nat.{_*_, _≤_};
 ghost use lib.ListN.{length};
 ghost use Rattle.tables.specs.Areas.{smallBytes, smallNodes};
-ghost use Rattle.join_rows.specs.Gathers.{Gathering};
+ghost use Rattle.columns.specs.Gathers.{Gathering};
 ghost use Rattle.send.specs.Sent.{SendTreeAsks};
 ghost use Rattle.join_tables.specs.Contracts.{DeliverGives, GatherAsks, GatherGives};
 

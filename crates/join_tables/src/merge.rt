@@ -2,8 +2,8 @@
 use crate::areas::FullPair;
 use crate::areas::SmallPair;
 use crate::gathered;
+use columns::survey;
 use join_rows::plan;
-use join_rows::survey;
 use slips::answer;
 use slips::answer::Answer;
 use tables::limits::Slip;

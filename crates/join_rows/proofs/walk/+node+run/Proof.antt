@@ -4,10 +4,11 @@ use denote.Ref.{now}
 use lib.ListN.{length}
 use mathlib.Core.Path.{_≡_, sym, _∙_, subst}
 use native.Mathlib.Omega.{arith}
-use Rattle.join_rows.specs.Columns.{headAt}
+use Rattle.columns.specs.Columns.{headAt}
+use Rattle.columns.specs.ColumnsLaws.{some-left}
 use Rattle.join_rows.specs.Walks.{NodeWalk, RunWalk}
 use Rattle.join_rows.specs.Meets.{taken-row}
-use Rattle.join_rows.specs.RunSteps.{some-left, earlier-at, none-said, run-said}
+use Rattle.join_rows.specs.RunSteps.{earlier-at, none-said, run-said}
 use Rattle.join_rows.proofs.Meeting.{node-clash, node-take, node-both}
 use borrow.Author.Needs.{needs}
 use borrow.Fn.Kinds.{In}
@@ -19,8 +20,8 @@ use Rattle.join_rows.proofs.walk.run.Reads as run
 use Rattle.join_rows.proofs.walk.run.Kinds as run-kinds
 use Rattle.join_rows.proofs.walk.+node+run.Lts-run as run-lts
 use Rattle.join_rows.proofs.walk.earlier.Reads as earlier-reads
-use Rattle.join_rows.proofs.walk.meet.Reads as meet-reads
-use Rattle.join_rows.proofs.walk.none_left.Reads as none-left-reads
+use Rattle.columns.proofs.meet.meet.Reads as meet-reads
+use Rattle.columns.proofs.heads.none_left.Reads as none-left-reads
 use Rattle.join_rows.proofs.walk.put.Reads as put-reads
 use Rattle.join_rows.proofs.walk.clashed.Reads as clashed-reads
 use Rattle.join_rows.proofs.walk.unclashed.Reads as unclashed-reads

@@ -1,9 +1,7 @@
-use Prim.Native.Nat.{_≤_}
 use mathlib.Core.Bool.{false}
 use mathlib.Core.Path.{_≡_, refl, sym, _∙_}
 use native.Mathlib.Omega.{arith}
 use denote.Ref.{now}
-use lib.ListN.{length}
 use Rattle.trees.specs.Nodes.{Node}
 use Rattle.trees.specs.Join.{join}
 use Rattle.sha2.specs.Sha256 as Sha256
