@@ -35,7 +35,8 @@ use Rattle.pack.specs.Pack.{rowsOf, badRow, faultOf, judgedAs, answerOf, packOf
 use Rattle.unpack.specs.Unpack.{Unpacked, lacksRoom, overAll, handedOf, tableOf, unpackOf}
 use Rattle.slips.specs.SlipTree.{slipTree}
 use Rattle.send.specs.Sent.{sent}
-use Rattle.prune.specs.Prune.{prunedOf, pruneOf}
+use Rattle.prune_tables.specs.Pruned.{prunedOf}
+use Rattle.prune.specs.Prune.{pruneOf}
 use Rattle.both_slips.specs.Both.{sided}
 use Rattle.join_tables.specs.Joined.{clashed, tooLarge, joinedOf}
 use Rattle.join.specs.Join.{joinOf}

@@ -14,7 +14,8 @@ use Rattle.slips.specs.Answers.{taken}
 use Rattle.slips.specs.Check.{paddingFits, settled, headerOf, bodyOf, checkOf}
 use Rattle.slips.specs.Output.{over, Packed}
 use Rattle.send.specs.Sent.{sent}
-use Rattle.prune.specs.Prune.{prunedOf, pruneOf}
+use Rattle.prune_tables.specs.Pruned.{prunedOf}
+use Rattle.prune.specs.Prune.{pruneOf}
 use Rattle.label_cases.specs.Values.{copies, bytes, output}
 
 -- a slip and a list, and the outcome expected

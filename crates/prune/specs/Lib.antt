@@ -1,6 +1,6 @@
 -- What pruning a slip answers and leaves.
 pub mod Prune
--- What its parts ask and give.
+-- What its parts ask.
 pub mod Contracts
 -- Theorems, and the laws behind them:
 pub mod PruneTheorems

@@ -1,34 +1,20 @@
 -- The pruner's tests, one after the other, over the areas that hold a slip.
-use Prim.Native.Nat.{ℕ, _+_, _≤_, _<_}
-use mathlib.Core.Bool.{Bool, true, false, cond, _&&_}
-use mathlib.Core.List.{List, [], _∷_, map}
-use mathlib.Core.Path.{_≡_, refl, sym, ap, _∙_, subst}
-use native.Mathlib.Omega.{arith}
-use borrow.Author.Tests.{lt-ltb, le-ltb, eq-eqb, ne-eqb}
-use lib.Dec.{ltb, leb}
-use lib.ListN.{length, take, getD}
-use lib.Seq.{length-take-le}
-use Rattle.trees.specs.Nodes.{Node, label}
-use Rattle.trees.specs.PruneLaws.{cut-label}
-use Rattle.trees.specs.Rows.{number, prunedRows}
-use Rattle.tables.specs.Refusals.{accepted, badList}
-use Rattle.tables.specs.Records.{TreeTable, Holds, named, firstFault}
+use Prim.Native.Nat.{ℕ}
+use mathlib.Core.Bool.{Bool}
+use mathlib.Core.List.{List, map}
+use mathlib.Core.Path.{_≡_, refl, sym, ap, _∙_}
+use borrow.Author.Tests.{eq-eqb, ne-eqb}
+use lib.ListN.{take}
+use Rattle.tables.specs.Refusals.{accepted}
 use Rattle.prune_rows.specs.Marks.{children}
-use Rattle.prune_rows.specs.Contracts.{Written, Prunes, pruned}
-use Rattle.prune_rows.specs.PrunedLaws.{rows-pruned}
 use Rattle.prune_rows.specs.TableLaws.{entries-counts}
 use Rattle.slips.specs.declared.answer.Answer.{Answer}
-use Rattle.slips.specs.Answers.{refused}
 use Rattle.slips.specs.Check.{readingOf, checkOf}
-use Rattle.slips.specs.Output.{Packed, Packs}
+use Rattle.slips.specs.Output.{Packs}
 use Rattle.slips.specs.SlipTree.{slipTree}
 use Rattle.slips.specs.Holding.{HoldsTree}
-use Rattle.send.specs.Sent.{sentTree}
-use Rattle.prune.specs.Prune.{prunedOf, pruneOf}
-
--- an outcome by another name
-pub packs-as : {p q : Packed} {r : Answer} {out : List ℕ} → p ≡ q → Packs p r out → Packs q r out
-packs-as {r = r} {out} e x = subst (λ (y : Packed). Packs y r out) e x
+use Rattle.prune_tables.specs.Pruned.{prunedOf}
+use Rattle.prune.specs.Prune.{pruneOf}
 
 module _ (H : List ℕ → List ℕ) (composed : List ℕ → Bool) (s list out : List ℕ) where
   -- a slip that is refused
@@ -42,57 +28,9 @@ module _ (H : List ℕ → List ℕ) (composed : List ℕ → Bool) (s list out 
   unfolding pruneOf
   prune-accepted e = sym (rw (eq-eqb (checkOf H composed s .number) accepted e))
 
-either-most : (b : Bool) (x y n : ℕ) → x ≤ n → y ≤ n → cond b x y ≤ n
-either-most true x y n p q = p
-either-most false x y n p q = q
-
-fault-within : (counts : List ℕ) (i low : ℕ) (list : List ℕ) → firstFault counts i low list ≤ i + length list
-unfolding firstFault
-fault-within counts i low [] = omega arith
-fault-within counts i low (x ∷ xs) =
-    either-most (leb low x && ltb 0 (getD counts x 0)) _ i _ (omega (arith, fault-within counts (i + 1) (x + 1) xs)) (omega arith)
-
--- a list of which no number is found faulty is clean
-pub fault-none : (counts list : List ℕ) → length list ≤ firstFault counts 0 0 list → firstFault counts 0 0 list ≡ length list
-fault-none counts list h = omega (arith, fault-within counts 0 0 list)
-
-module _ (H : List ℕ → List ℕ) (counts list out : List ℕ) (n : Node) where
-  pub list-faulty : firstFault counts 0 0 list < length list → {r : Answer} → r ≡ refused badList (firstFault counts 0 0 list)
-      → Packs (prunedOf H counts list n out) r out
-  unfolding prunedOf
-  list-faulty h e = rw (lt-ltb (firstFault counts 0 0 list) (length list) h) (record { answered = e; written = refl })
-
-  pub list-clean : length list ≤ firstFault counts 0 0 list → sentTree H (pruned H list n) out ≡ prunedOf H counts list n out
-  unfolding prunedOf
-  list-clean h = sym (rw (le-ltb (firstFault counts 0 0 list) (length list) h))
-
 module _ {s : List ℕ} {rows : ℕ} {types counts lengths values labels : List ℕ} (h : HoldsTree s rows types counts lengths values labels) where
   -- the column of counts has what the entries name
   pub counts-held : take rows counts ≡ map children (readingOf s .rows)
   counts-held =
       sym (entries-counts (take rows types) (take rows counts) (take rows lengths) values (h .holds .counts-long) (h .holds .lengths-long))
       ∙ ap (map children) (h .holds .rows-are ∙ sym (h .reads-as .rows-are))
-
--- the second table is that of the pruned tree
-module _ {types counts lengths values labels list : List ℕ} {rows2 used : ℕ} {types2 counts2 lengths2 values2 : List ℕ}
-    (p : Prunes types counts lengths values labels list rows2 used types2 counts2 lengths2 values2)
-    {H : List ℕ → List ℕ} {n : Node} (h : Holds H n types counts lengths values labels) where
-  pub written : Written rows2 used types2 counts2 lengths2 values2 (prunedRows H (named list) 0 n)
-  written = p .table H n h
-
-  pub pruned-table : TreeTable (pruned H list n) (take rows2 types2) (take rows2 counts2) (take rows2 lengths2) (take used values2)
-  pruned-table =
-      let w = written in
-      let long : length (take rows2 types2) ≡ rows2 = length-take-le rows2 types2 (w .types-room) in
-      record {
-        counts-long = length-take-le rows2 counts2 (w .counts-room) ∙ sym long;
-        lengths-long = length-take-le rows2 lengths2 (w .lengths-room) ∙ sym long;
-        few = omega (arith, long, p .no-more, h .few);
-        formed = w .formed ∙ sym long;
-        area = omega (arith, w .sized, length-take-le used values2 (w .values-room));
-        rows-are = w .are ∙ sym (rows-pruned H list n);
-      }
-
--- pruning keeps the root label
-pub root-kept : (H : List ℕ → List ℕ) (n : Node) (l list : List ℕ) → l ≡ label H n → l ≡ label H (pruned H list n)
-root-kept H n l list e = e ∙ sym (cut-label H (λ q. named list (number n q)) n)

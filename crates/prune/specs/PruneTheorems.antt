@@ -38,8 +38,10 @@ use Rattle.slips.specs.SlipTree.{slipTree}
 use Rattle.slips.specs.SlipTreeLaws.{slip-tree}
 use Rattle.send.specs.Sent.{sent, sentTree}
 use Rattle.slips.specs.ByteTrees.{OfBytes, proper-back, proper-bytes, tree-proper, tree-slip, accepted-slip}
-use Rattle.prune.specs.Prune.{prunedOf, pruneOf}
-use Rattle.prune.specs.PruneCallLaws.{fault-none, prune-accepted, list-clean}
+use Rattle.prune_tables.specs.Pruned.{prunedOf}
+use Rattle.prune_tables.specs.CutLaws.{fault-none, list-clean}
+use Rattle.prune.specs.Prune.{pruneOf}
+use Rattle.prune.specs.PruneCallLaws.{prune-accepted}
 
 -- the bits that a slip's entries take
 bits-width : (es : List Entry) → AllProper es → length (allBits es) ≡ width es

@@ -1,4 +1,3 @@
-// The core of the pruner: the list's test, and the table of the pruned tree.
+// What a pruning list says of a table's rows: its test, and what becomes of each row.
 pub mod marks;
 pub mod names;
-pub mod rows;

@@ -15,8 +15,9 @@ use Rattle.slips.specs.HeaderLaws.{check-body}
 use Rattle.slips.specs.SlipTree.{slipTree}
 use Rattle.slips.specs.Holding.{HoldsTree}
 use Rattle.slips.specs.HoldingLaws.{Rooms, holds-tree}
-use Rattle.prune.specs.Prune.{prunedOf}
-use Rattle.prune.specs.PruneCallLaws.{packs-as, prune-refused, prune-accepted, counts-held}
+use Rattle.prune_tables.specs.Pruned.{prunedOf}
+use Rattle.prune_tables.specs.CutLaws.{packs-as}
+use Rattle.prune.specs.PruneCallLaws.{prune-refused, prune-accepted, counts-held}
 use borrow.Author.Needs.{needs}
 use Rattle.prune.proofs.prune_in.Statement.{statement}
 use Rattle.prune.proofs.prune_in.Tie as tie

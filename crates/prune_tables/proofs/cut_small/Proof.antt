@@ -1,7 +1,7 @@
 use native.Mathlib.Omega.{arith}
 use borrow.Author.Needs.{needs}
-use Rattle.prune.proofs.cut_small.Statement.{statement}
-use Rattle.prune.proofs.cut_small.Tie as tie
+use Rattle.prune_tables.proofs.cut_small.Statement.{statement}
+use Rattle.prune_tables.proofs.cut_small.Tie as tie
 
 send-pruned-requires : tie.Need-send-pruned-requires
 send-pruned-requires c κs =

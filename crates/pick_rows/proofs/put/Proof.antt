@@ -4,10 +4,10 @@ use mathlib.Core.Path.{_≡_, refl}
 use native.Mathlib.Omega.{arith}
 use lib.ListN.{length}
 use Rattle.lists.specs.Lists.{put-is}
-use Rattle.prune_rows.proofs.Putting.{written-more}
+use Rattle.pick_rows.proofs.Putting.{written-more}
 use borrow.Author.Needs.{needs}
-use Rattle.prune_rows.proofs.rows.put.Statement.{statement}
-use Rattle.prune_rows.proofs.rows.put.Tie as tie
+use Rattle.pick_rows.proofs.put.Statement.{statement}
+use Rattle.pick_rows.proofs.put.Tie as tie
 
 returns : tie.Need-returns
 returns c =

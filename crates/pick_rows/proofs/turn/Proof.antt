@@ -1,9 +1,9 @@
 use denote.Ref.{now}
 use native.Mathlib.Omega.{arith}
-use Rattle.prune_rows.proofs.Putting.{turn-gone, turn-kept, turn-cut, dangling-fits}
+use Rattle.pick_rows.proofs.Putting.{turn-gone, turn-kept, turn-cut, dangling-fits}
 use borrow.Author.Needs.{needs}
-use Rattle.prune_rows.proofs.rows.turn.Statement.{statement}
-use Rattle.prune_rows.proofs.rows.turn.Tie as tie
+use Rattle.pick_rows.proofs.turn.Statement.{statement}
+use Rattle.pick_rows.proofs.turn.Tie as tie
 
 returns : tie.Need-returns
 returns c = let a = c .before .before .before .before .before .before .before .args in turn-gone (a .mark) (a .l) (a .p .rows) (a .p .used) (now (a .label)) _ _ _ _ _ (c .if1 .taken)

@@ -1,6 +1,5 @@
-// The table of the pruned tree.
-use crate::marks;
-use crate::marks::Mark;
+// The table of the rows that the marks pick.
+use prune_rows::marks::Mark;
 use tables::form::cell;
 use tables::limits::Slip;
 ghost use mathlib.Core.Path.{_≡_};
@@ -8,8 +7,8 @@ ghost use Prim.Native.Nat.{_+_, _≤_, _<_};
 ghost use lib.ListN.{length};
 ghost use Rattle.trees.specs.Rules.{labelBytes};
 ghost use Rattle.tables.specs.Tables.{entryOf};
-ghost use Rattle.prune_rows.specs.Contracts.{Prunable, Roomy, Prunes};
+ghost use Rattle.prune_rows.specs.Contracts.{Roomy};
 ghost use Rattle.prune_rows.specs.Steps.{Puts, Added, Turn, Pickable, Picks};
 
 // The rows of the second table and the bytes of its area.
 pub struct Pruned {
@@ -79,8 +78,8 @@ fn turn(
     )
 }
 
-// The rows that the marks pick.
-fn pick(
+// The rows that the marks pick, in the second columns and area.
+pub fn pick(
     types: &[u16],
     counts: &[u16],
     lengths: &[u16],
@@ -121,37 +120,4 @@ fn pick(
         i = next;
     }
     p
-}
-
-// The table of the pruned tree, in the second columns and area.
-pub fn prune_rows(
-    types: &[u16],
-    counts: &[u16],
-    lengths: &[u16],
-    values: &[u8],
-    labels: &[u8],
-    list: &[u16],
-    types2: &mut [u16],
-    counts2: &mut [u16],
-    lengths2: &mut [u16],
-    values2: &mut [u8],
-) -> Pruned
-    requires { ⌜ Prunable (now types) (now counts) (now lengths) (now values) (now labels) (now list) ⌝ }
-    requires { ⌜ Roomy (now types) (now lengths) (now types2) (now counts2) (now lengths2) (now values2) ⌝ }
-    ensures { λ r. ⌜ Prunes (now (types .entry)) (now (counts .entry)) (now (lengths .entry)) (now (values .entry)) (now (labels .entry)) (now (list .entry)) (r .rows) (r .used) (now (types2 .exit)) (now (counts2 .exit)) (now (lengths2 .exit)) (now (values2 .exit)) ⌝ }
-{
-    let mut marks = [0u8; Slip::MAX_NODES];
-    marks::mark_rows(counts, list, &mut marks);
-    pick(
-        types,
-        counts,
-        lengths,
-        values,
-        labels,
-        &marks,
-        types2,
-        counts2,
-        lengths2,
-        values2,
-    )
 }

@@ -6,15 +6,22 @@ use native.Mathlib.Omega.{arith}
 use Rattle.trees.specs.Nodes.{Node}
 use Rattle.trees.specs.Rows.{prunedRows}
 use Rattle.tables.specs.Records.{Holds, named}
+use Rattle.sha2.specs.Sha256 as Sha256
 use Rattle.prune_rows.specs.Contracts.{Written, Prunable, Prunes}
 use Rattle.prune_rows.specs.Steps.{Pickable, Picks}
 use Rattle.prune_rows.specs.PrunedLaws.{Marked, marked-inner, picked-table, pruned-some, written-rows}
+use Rattle.prune_tables.specs.Contracts.{CleanAsks}
 
-module _ {types counts lengths values labels list marks : List ℕ} (able : Prunable types counts lengths values labels list)
+-- a table that holds a tree, and a list without fault
+pub able : {types counts lengths values labels list : List ℕ} → CleanAsks types counts lengths values labels list
+    → Prunable types counts lengths values labels list
+able p = record { H = Sha256.label; n = p .asks .n; holds = p .asks .holds; clean = p .clean }
+
+module _ {types counts lengths values labels list marks : List ℕ} (x : Prunable types counts lengths values labels list)
     (marked : Marked list counts marks) where
   pub pickable : Pickable types counts lengths values labels marks
   pickable =
-      let h = able .holds in
+      let h = x .holds in
       record {
         counts-long = h .counts-long;
         lengths-long = h .lengths-long;
@@ -22,7 +29,7 @@ module _ {types counts lengths values labels list marks : List ℕ} (able : Prun
         formed = h .formed;
         area = h .area;
         labels-room = h .labels-room;
-        cuts = λ k l. marked-inner list counts marks (able .clean) marked k (omega (arith, h .counts-long));
+        cuts = λ k l. marked-inner list counts marks (x .clean) marked k (omega (arith, h .counts-long));
       }
 
   pub prunes :
@@ -37,9 +44,9 @@ module _ {types counts lengths values labels list marks : List ℕ} (able : Prun
 
       some : 1 ≤ rows
       some =
-          let w : Written rows used ts cs ls vs (prunedRows (able .H) (named list) 0 (able .n)) = table (able .H) (able .n) (able .holds) in
+          let w : Written rows used ts cs ls vs (prunedRows (x .H) (named list) 0 (x .n)) = table (x .H) (x .n) (x .holds) in
           omega (
             arith,
-            written-rows rows used ts cs ls vs (prunedRows (able .H) (named list) 0 (able .n)) w,
-            pruned-some (able .H) list (able .n),
+            written-rows rows used ts cs ls vs (prunedRows (x .H) (named list) 0 (x .n)) w,
+            pruned-some (x .H) list (x .n),
           )

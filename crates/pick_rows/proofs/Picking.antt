@@ -10,12 +10,12 @@ use Rattle.trees.specs.Rules.{labelBytes}
 use Rattle.trees.specs.Rows.{Entry, tip}
 use Rattle.tables.specs.Tables.{entryOf, entries, sum}
 use Rattle.tables.specs.TablesLaws.{sum-append, length-entries}
 use Rattle.prune_rows.specs.Picked.{picked, rowBy, labelRows}
 use Rattle.prune_rows.specs.PickedLaws.{picked-step, picked-none, length-label-rows, label-rows-at}
 use Rattle.prune_rows.specs.TableLaws.{entries-at, row-fits}
 use Rattle.prune_rows.specs.Contracts.{Written}
 use Rattle.prune_rows.specs.Steps.{Puts, Turn, Pickable, Picks}
-use Rattle.prune_rows.proofs.Putting.{written-none}
+use Rattle.pick_rows.proofs.Putting.{written-none}
 
 -- the lengths up to row i, and one more
 pub sum-front : (ls : List ℕ) (i : ℕ) → i < length ls → sum (take (i + 1) ls) ≡ sum (take i ls) + getD ls i 0

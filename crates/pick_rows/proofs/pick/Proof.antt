@@ -3,12 +3,12 @@ use denote.Ref.{now}
 use mathlib.Core.Path.{_≡_, refl, ap, _∙_}
 use native.Mathlib.Omega.{arith}
 use lib.ListN.{length, getD, length-take, length-drop}
-use Rattle.prune_rows.proofs.Picking.{Going, value-part, label-part, value-in, value-room, going-none, going-puts, going-more, going-all}
+use Rattle.pick_rows.proofs.Picking.{Going, value-part, label-part, value-in, value-room, going-none, going-puts, going-more, going-all}
 use Rattle.tables.specs.Tables.{entries}
 use Rattle.prune_rows.specs.Picked.{labelRows}
 use borrow.Author.Needs.{needs}
-use Rattle.prune_rows.proofs.rows.pick.Statement.{statement}
-use Rattle.prune_rows.proofs.rows.pick.Tie as tie
+use Rattle.pick_rows.proofs.pick.Statement.{statement}
+use Rattle.pick_rows.proofs.pick.Tie as tie
 
 abbrev Inv-loop : tie.InvT-loop
 Inv-loop types counts lengths values labels marks types2₀ counts2₀ lengths2₀ values2₀ i₀ at₀ p₀ types2 counts2 lengths2 values2 i at p =

@@ -3,10 +3,10 @@ use native.Mathlib.Omega.{arith}
 use Rattle.tables.specs.Refusals.{badList}
 use Rattle.sha2.specs.Sha256 as Sha256
 use Rattle.slips.specs.Answers.{refused}
-use Rattle.prune.specs.PruneCallLaws.{packs-as, fault-none, list-faulty, list-clean}
+use Rattle.prune_tables.specs.CutLaws.{packs-as, fault-none, list-faulty, list-clean}
 use borrow.Author.Needs.{needs}
-use Rattle.prune.proofs.cut.Statement.{statement}
-use Rattle.prune.proofs.cut.Tie as tie
+use Rattle.prune_tables.proofs.cut.Statement.{statement}
+use Rattle.prune_tables.proofs.cut.Tie as tie
 
 returns : tie.Need-returns
 returns c n h e =

@@ -1,0 +1,20 @@
+-- What the pruning of a table answers and leaves: "12, 11."
+use Prim.Native.Nat.{ℕ}
+use mathlib.Core.Bool.{cond}
+use mathlib.Core.List.{List}
+use lib.Dec.{ltb}
+use lib.ListN.{length}
+use Rattle.trees.specs.Nodes.{Node}
+use Rattle.tables.specs.Refusals.{badList}
+use Rattle.tables.specs.Records.{firstFault}
+use Rattle.prune_rows.specs.Contracts.{pruned}
+use Rattle.slips.specs.Answers.{refused}
+use Rattle.slips.specs.Output.{Packed, still}
+use Rattle.send.specs.Sent.{sentTree}
+
+-- "12, 11", of a tree n whose entries have so many children each: "Each becomes dangling with its label, and its descendants go." The place
+-- of 12 is "the first faulty index in the list".
+unfoldable pub prunedOf : (List ℕ → List ℕ) → List ℕ → List ℕ → Node → List ℕ → Packed
+prunedOf H counts list n out =
+    cond (ltb (firstFault counts 0 0 list) (length list)) (still (refused badList (firstFault counts 0 0 list)) out)
+    (sentTree H (pruned H list n) out)
