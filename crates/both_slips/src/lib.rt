@@ -5,7 +5,6 @@ use slips::answer::Answer;
 use slips::open;
 use slips::open::Opened;
 use tables::limits::Slip;
-use tables::refusals::Refusal;
 ghost use Rattle.both_slips.specs.Contracts.{areas, BehindAsks, BehindGives, BothAsks, BothGives};
 
 // The refusal, or the first slip's answer with how many rows the first table and both have.
@@ -42,7 +41,7 @@ fn open_behind(
     )
 }
 
-// Holds both slips, whose headers are taken, or says why not.
+// Holds both slips, whose headers are taken, or says why not. The second is opened where the first is refused too: one way to carry the areas.
 pub fn hold_both(
     s: &[u8],
     n: usize,
@@ -60,13 +59,6 @@ pub fn hold_both(
     // a slip has no more value bytes than bytes, so the rest of the values stays free for the second
     let long = s.len();
     let a = open::open_in(s, n, types, counts, lengths, &mut values[..long], labels);
-    if a.answer.number != Refusal::ACCEPTED {
-        return Pair {
-            answer: answers::sided(1, a.answer),
-            first: 0,
-            rows: 0,
-        };
-    }
     let first = a.rows;
     let b = open_behind(u, m, first, a.used, types, counts, lengths, values, labels);
     let rows = first + b.rows;

@@ -10,8 +10,8 @@ use Rattle.trees.specs.Lists.{same-true}
 use Rattle.slips.specs.declared.answer.Answer.{Answer}
 use Rattle.slips.specs.Check.{countOf}
 use Rattle.slips.specs.HoldingLaws.{Rooms, holds-tree}
-use Rattle.both_slips.specs.Both.{sided, bothOf}
-use Rattle.both_slips.specs.BothLaws.{both-first, both-told}
+use Rattle.both_slips.specs.Both.{bothOf}
+use Rattle.both_slips.specs.BothLaws.{both-told}
 use Rattle.both_slips.proofs.Holding.{tables-held}
 use borrow.Author.Needs.{needs}
 use Rattle.both_slips.proofs.hold_both.Statement.{statement}
@@ -34,14 +34,6 @@ open-in-requires c κs =
       lengths-room = omega (arith, p .lengths-room);
       values-room = omega (arith, length-take-le (length (now (a .s))) (now (a .values)) (omega (arith, p .values-room)));
       labels-room = omega (arith, p .labels-room);
-    }
-
-returns : tie.Need-returns
-returns c =
-    let e = c .before .before .before .before .before .before .before .before .before .before .before .before .before .open-in .ensures .answer in
-    record {
-      answer = c .sided .ensures ∙ ap (sided 1) e ∙ both-first _ _ (λ q. c .before .if1 .taken (ap (λ (a : Answer). a .number) e ∙ q));
-      tables = λ q. absurd (c .before .if1 .taken (sym (ap (λ (a : Answer). a .number) (c .sided .ensures)) ∙ q));
     }
 
 -- the first slip's rows, and its values with the rest of the area
@@ -75,53 +67,53 @@ rooms c =
 
 open-behind-requires : tie.Need-open-behind-requires
 open-behind-requires c κs =
-    let o = c .before .before .before .before .before .before .before .before .before .before .before .before .before .before .before .before .before .open-in in
-    let p = c .before .before .before .before .before .before .before .before .before .before .before .before .before .before .before .before .before .before .before .before .before .before .before .before .before .before .before .before .before .before .pre in
-    let r = rows-few (c .before .before .before .before .before .before .before .before .before .before .before .before .before .before .before .before .before) in
+    let o = c .before .before .before .before .before .before .before .before .before .before .before .before .before .before .before .open-in in
+    let p = c .before .before .before .before .before .before .before .before .before .before .before .before .before .before .before .before .before .before .before .before .before .before .before .before .before .before .before .before .pre in
+    let r = rows-few (c .before .before .before .before .before .before .before .before .before .before .before .before .before .before .before) in
     record {
       is = p .two .is;
       low = omega (arith, r, p .one .is .few);
       types-room = omega (arith, r, o .kept .1 .1 .0, p .types-room);
       counts-room = omega (arith, r, o .kept .1 .1 .1 .0, p .counts-room);
       lengths-room = omega (arith, r, o .kept .1 .1 .1 .1 .0, p .lengths-room);
-      values-room = omega (arith, used-few (c .before .before .before .before .before .before .before .before .before .before .before .before .before .before .before .before .before), values-long (c .before .before .before .before .before .before .before .before .before .before .before .before .before .before .before .before .before), p .values-room);
+      values-room = omega (arith, used-few (c .before .before .before .before .before .before .before .before .before .before .before .before .before .before .before), values-long (c .before .before .before .before .before .before .before .before .before .before .before .before .before .before .before), p .values-room);
       labels-room = omega (arith, r, o .kept .1 .1 .1 .1 .1 .1 .0, p .labels-room);
     }
 
 -- so many rows has the second
-second-few : (c : tie.After-open-behind) → c .open-behind .result .rows ≤ c .before .before .before .before .before .before .before .before .before .before .before .before .before .before .before .before .before .before .before .before .before .before .before .before .before .before .before .before .before .before .before .args .m
-second-few c = omega (arith, c .open-behind .ensures .opens .few, c .before .before .before .before .before .before .before .before .before .before .before .before .before .before .before .before .before .before .before .before .before .before .before .before .before .before .before .before .before .before .before .pre .two .is .counted)
+second-few : (c : tie.After-open-behind) → c .open-behind .result .rows ≤ c .before .before .before .before .before .before .before .before .before .before .before .before .before .before .before .before .before .before .before .before .before .before .before .before .before .before .before .before .before .args .m
+second-few c = omega (arith, c .open-behind .ensures .opens .few, c .before .before .before .before .before .before .before .before .before .before .before .before .before .before .before .before .before .before .before .before .before .before .before .before .before .before .before .before .before .pre .two .is .counted)
 
 add-rows : tie.Need-add-rows
-add-rows c = omega (arith, rows-few (c .before .before .before .before .before .before .before .before .before .before .before .before .before .before .before .before .before .before .before .before .before .before .before .before .before .before .before .before .before), second-few (c .before .before .before .before .before .before .before .before .before .before .before), c .before .before .before .before .before .before .before .before .before .before .before .before .before .before .before .before .before .before .before .before .before .before .before .before .before .before .before .before .before .before .before .before .before .before .before .before .before .before .before .before .before .before .pre .one .is .few, c .before .before .before .before .before .before .before .before .before .before .before .before .before .before .before .before .before .before .before .before .before .before .before .before .before .before .before .before .before .before .before .before .before .before .before .before .before .before .before .before .before .before .pre .two .is .few)
+add-rows c = omega (arith, rows-few (c .before .before .before .before .before .before .before .before .before .before .before .before .before .before .before .before .before .before .before .before .before .before .before .before .before .before .before), second-few (c .before .before .before .before .before .before .before .before .before .before .before), c .before .before .before .before .before .before .before .before .before .before .before .before .before .before .before .before .before .before .before .before .before .before .before .before .before .before .before .before .before .before .before .before .before .before .before .before .before .before .before .before .pre .one .is .few, c .before .before .before .before .before .before .before .before .before .before .before .before .before .before .before .before .before .before .before .before .before .before .before .before .before .before .before .before .before .before .before .before .before .before .before .before .before .before .before .before .pre .two .is .few)
 
-long-types : tie.Need-same-length-6
-long-types c = c .before .before .before .before .before .before .before .before .before .before .before .before .open-behind .kept .1 .1 .1 .1 .0 ∙ c .before .before .before .before .before .before .before .before .before .before .before .before .before .before .before .before .before .before .before .before .before .before .before .before .before .before .before .before .before .before .open-in .kept .1 .1 .0
+long-types : tie.Need-same-length
+long-types c = c .before .before .before .before .before .before .before .before .before .before .before .before .open-behind .kept .1 .1 .1 .1 .0 ∙ c .before .before .before .before .before .before .before .before .before .before .before .before .before .before .before .before .before .before .before .before .before .before .before .before .before .before .before .before .open-in .kept .1 .1 .0
 
-long-counts : tie.Need-same-length-7
-long-counts c = c .before .before .before .before .before .before .before .before .before .before .before .before .open-behind .kept .1 .1 .1 .1 .1 .0 ∙ c .before .before .before .before .before .before .before .before .before .before .before .before .before .before .before .before .before .before .before .before .before .before .before .before .before .before .before .before .before .before .open-in .kept .1 .1 .1 .0
+long-counts : tie.Need-same-length-2
+long-counts c = c .before .before .before .before .before .before .before .before .before .before .before .before .open-behind .kept .1 .1 .1 .1 .1 .0 ∙ c .before .before .before .before .before .before .before .before .before .before .before .before .before .before .before .before .before .before .before .before .before .before .before .before .before .before .before .before .open-in .kept .1 .1 .1 .0
 
-long-lengths : tie.Need-same-length-8
-long-lengths c = c .before .before .before .before .before .before .before .before .before .before .before .before .open-behind .kept .1 .1 .1 .1 .1 .1 .0 ∙ c .before .before .before .before .before .before .before .before .before .before .before .before .before .before .before .before .before .before .before .before .before .before .before .before .before .before .before .before .before .before .open-in .kept .1 .1 .1 .1 .0
+long-lengths : tie.Need-same-length-3
+long-lengths c = c .before .before .before .before .before .before .before .before .before .before .before .before .open-behind .kept .1 .1 .1 .1 .1 .1 .0 ∙ c .before .before .before .before .before .before .before .before .before .before .before .before .before .before .before .before .before .before .before .before .before .before .before .before .before .before .before .before .open-in .kept .1 .1 .1 .1 .0
 
-long-values : tie.Need-same-length-9
-long-values c = c .before .before .before .before .before .before .before .before .before .before .before .before .open-behind .kept .1 .1 .1 .1 .1 .1 .1 .0 ∙ values-long (c .before .before .before .before .before .before .before .before .before .before .before .before .before .before .before .before .before .before .before .before .before .before .before .before .before .before .before .before .before .before)
+long-values : tie.Need-same-length-4
+long-values c = c .before .before .before .before .before .before .before .before .before .before .before .before .open-behind .kept .1 .1 .1 .1 .1 .1 .1 .0 ∙ values-long (c .before .before .before .before .before .before .before .before .before .before .before .before .before .before .before .before .before .before .before .before .before .before .before .before .before .before .before .before)
 
-long-labels : tie.Need-same-length-10
-long-labels c = c .before .before .before .before .before .before .before .before .before .before .before .before .open-behind .kept .1 .1 .1 .1 .1 .1 .1 .1 .0 ∙ c .before .before .before .before .before .before .before .before .before .before .before .before .before .before .before .before .before .before .before .before .before .before .before .before .before .before .before .before .before .before .open-in .kept .1 .1 .1 .1 .1 .1 .0
+long-labels : tie.Need-same-length-5
+long-labels c = c .before .before .before .before .before .before .before .before .before .before .before .before .open-behind .kept .1 .1 .1 .1 .1 .1 .1 .1 .0 ∙ c .before .before .before .before .before .before .before .before .before .before .before .before .before .before .before .before .before .before .before .before .before .before .before .before .before .before .before .before .open-in .kept .1 .1 .1 .1 .1 .1 .0
 
-returns-2 : tie.Need-returns-2
-returns-2 c =
-    let o = c .before .before .before .before .before .before .before .before .before .before .before .before .before .before .before .before .before .before .before .before .before .before .before .before .before .before .before .before .before .before .open-in in
+returns : tie.Need-returns
+returns c =
+    let o = c .before .before .before .before .before .before .before .before .before .before .before .before .before .before .before .before .before .before .before .before .before .before .before .before .before .before .before .before .open-in in
     let k = c .before .before .before .before .before .before .before .before .before .before .before .before .open-behind in
-    let p = c .before .before .before .before .before .before .before .before .before .before .before .before .before .before .before .before .before .before .before .before .before .before .before .before .before .before .before .before .before .before .before .before .before .before .before .before .before .before .before .before .before .before .before .pre in
-    let r = rows-few (c .before .before .before .before .before .before .before .before .before .before .before .before .before .before .before .before .before .before .before .before .before .before .before .before .before .before .before .before .before .before) in
+    let p = c .before .before .before .before .before .before .before .before .before .before .before .before .before .before .before .before .before .before .before .before .before .before .before .before .before .before .before .before .before .before .before .before .before .before .before .before .before .before .before .before .before .pre in
+    let r = rows-few (c .before .before .before .before .before .before .before .before .before .before .before .before .before .before .before .before .before .before .before .before .before .before .before .before .before .before .before .before) in
     let q = second-few (c .before .before .before .before .before .before .before .before .before .before .before .before) in
     record {
       answer = c .both .ensures ∙ ap₂ bothOf (o .ensures .answer) (k .ensures .opens .answer);
       tables = λ e.
           (let t = both-told _ _ (ap (λ (a : Answer). a .number) (sym (c .both .ensures)) ∙ e) in
-          tables-held (holds-tree (o .ensures) (rooms (c .before .before .before .before .before .before .before .before .before .before .before .before .before .before .before .before .before .before .before .before .before .before .before .before .before .before .before .before .before .before)) (t .one)) (o .ensures) (take-append-le _ _ _ (o .ensures .room)) (k .ensures) (t .two)
+          tables-held (holds-tree (o .ensures) (rooms (c .before .before .before .before .before .before .before .before .before .before .before .before .before .before .before .before .before .before .before .before .before .before .before .before .before .before .before .before)) (t .one)) (o .ensures) (take-append-le _ _ _ (o .ensures .room)) (k .ensures) (t .two)
           (same-true _ _ (t .alike)) (c .both .ensures ∙ t .is)
           (omega (arith, r, q, k .kept .1 .1 .1 .1 .0, o .kept .1 .1 .0, p .types-room))
           (omega (arith, r, q, k .kept .1 .1 .1 .1 .1 .0, o .kept .1 .1 .1 .0, p .counts-room))
@@ -131,6 +123,5 @@ returns-2 c =
 pub hold-both-spec : {M : Type 1} → statement M
 hold-both-spec =
     tie.close
-    (tie.spec (λ c. search needs) slice-aggregate-open-in open-in-requires (λ c κs. search needs) (λ c. search needs) (λ c. search needs)
-    (λ c. search needs) (λ c. search needs) (λ c. search needs) returns open-behind-requires add-rows (λ c κs. search needs) long-types
-    long-counts long-lengths long-values long-labels returns-2)
+    (tie.spec (λ c. search needs) slice-aggregate-open-in open-in-requires open-behind-requires add-rows (λ c κs. search needs) long-types
+    long-counts long-lengths long-values long-labels returns)
