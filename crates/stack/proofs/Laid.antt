@@ -1,10 +1,10 @@
 -- A stack in the areas: its last nodes, those below them, and one node more.
-use Prim.Native.Nat.{ℕ, _+_, _-_, _*_, _/_, _%_, _≤_, _<_}
-use mathlib.Core.Path.{_≡_, refl, sym, ap, ap₂, _∙_}
-use mathlib.Core.List.{List, [], _∷_, _++_, map, map-append, append-assoc, append-nil}
+use Prim.Native.Nat.{ℕ, _+_, _-_, _*_, _≤_, _<_}
+use mathlib.Core.Path.{_≡_, sym, ap, _∙_}
+use mathlib.Core.List.{List, [], _∷_, _++_, map, map-append, append-nil}
 use native.Mathlib.Omega.{arith}
-use lib.ListN.{length, take, drop, set, length-append, length-set, length-drop}
-use lib.Seq.{take-at, drop-at, take-all, paste, take-paste, length-take-le}
+use lib.ListN.{length, take, drop, set, length-append, length-drop}
+use lib.Seq.{take-at, drop-at, length-take-le}
 use Rattle.trees.specs.Lists.{map-take, map-drop}
 use Rattle.trees.specs.Nodes.{piece}
 use Rattle.trees.specs.Rows.{Tag, headOf, kids, below}
@@ -70,51 +70,19 @@ module _ {st : List Tag} {d top : ℕ} {kinds heights sizes work : List ℕ} (l 
         full = at;
       }
 
--- a node pushed: first its type and its length, in four bytes behind the pieces
-abbrev pub headed : List ℕ → List ℕ → ℕ → ℕ → List ℕ
-headed work text top kind =
-    set (set (set (set work top (kind / 256)) (top + 1) (kind % 256)) (top + 2) (length text / 256)) (top + 3) (length text % 256)
-
-pub length-headed : (work text : List ℕ) (top kind : ℕ) → length (headed work text top kind) ≡ length work
-length-headed work text top kind = simp length-set
-
-module _ (work text : List ℕ) (top kind : ℕ) (room : top + 4 + length text ≤ length work) where
-  head-is : take (top + 4) (headed work text top kind)
-      ≡ take top work ++ (kind / 256 ∷ kind % 256 ∷ length text / 256 ∷ length text % 256 ∷ [])
-  head-is =
-      let w₁ : List ℕ = set work top (kind / 256) in
-      let w₂ : List ℕ = set w₁ (top + 1) (kind % 256) in
-      let w₃ : List ℕ = set w₂ (top + 2) (length text / 256) in
-      let n₁ : length w₁ ≡ length work = length-set work top (kind / 256) in
-      let n₂ : length w₂ ≡ length work = length-set w₁ (top + 1) (kind % 256) ∙ n₁ in
-      let n₃ : length w₃ ≡ length work = length-set w₂ (top + 2) (length text / 256) ∙ n₂ in
-      filled w₃ (top + 3) (top + 4) (length text % 256) (omega arith) (omega arith)
-      (filled w₂ (top + 2) (top + 3) (length text / 256) (omega arith) (omega arith)
-      (filled w₁ (top + 1) (top + 2) (kind % 256) (omega arith) (omega arith)
-      (filled work top (top + 1) (kind / 256) (omega arith) (omega arith) refl)))
-      ∙ simp append-assoc
-
-  -- then its text
-  pub piece-put : take (top + 4 + length text) (paste (headed work text top kind) (top + 4) text (length text)) ≡ take top work ++ piece (record { kind = kind; text = text })
-  piece-put =
-      let at : top + 4 ≤ length (headed work text top kind) = omega (arith, length-headed work text top kind) in
-      let all : length text ≤ length text = omega arith in
-      take-paste (headed work text top kind) (top + 4) text (length text) at all
-      ∙ ap₂ _++_ head-is (take-all (length text) text all)
-      ∙ append-assoc (take top work) (kind / 256 ∷ kind % 256 ∷ length text / 256 ∷ length text % 256 ∷ []) text
-
--- So the areas hold one node more.
+-- The areas hold one node more, where its piece stands behind the others.
 pub laid-push :
-    {st : List Tag} {d top : ℕ} {kinds heights sizes work work′ : List ℕ} (g : Tag)
+    {st : List Tag} {d top : ℕ} {kinds heights sizes work work′ : List ℕ} {end : ℕ} (g : Tag)
     → Laid st d top kinds heights sizes work
     → d < length kinds
     → d < length heights
     → d < length sizes
+    → end ≡ top + 4 + length (g .text)
     → take (top + 4 + length (g .text)) work′ ≡ take top work ++ piece (headOf g)
-    → Laid (st ++ (g ∷ [])) (d + 1) (top + 4 + length (g .text)) (set kinds d (g .kind)) (set heights d (g .height)) (set sizes d (length (g .text))) work′
-laid-push {st} {d} {top} {kinds} {heights} {sizes} {work} g l hk hh hs e =
+    → Laid (st ++ (g ∷ [])) (d + 1) end (set kinds d (g .kind)) (set heights d (g .height)) (set sizes d (length (g .text))) work′
+laid-push {st} {d} {top} {kinds} {heights} {sizes} {work} {work′} g l hk hh hs q e =
     let col : (f : Tag → ℕ) (w : List ℕ) → d < length w → take d w ≡ map f st → take (d + 1) (set w d (f g)) ≡ map f (st ++ (g ∷ [])) =
-    λ f w h q. filled w d (d + 1) (f g) h (omega arith) q ∙ sym (map-append f st (g ∷ [])) in
+    λ f w h z. filled w d (d + 1) (f g) h (omega arith) z ∙ sym (map-append f st (g ∷ [])) in
     let more : pieces (st ++ (g ∷ [])) ≡ pieces st ++ piece (headOf g) =
     pieces-append st (g ∷ []) ∙ ap (λ (p : List ℕ). pieces st ++ p) (append-nil (piece (headOf g))) in
     record {
@@ -125,6 +93,6 @@ laid-push {st} {d} {top} {kinds} {heights} {sizes} {work} g l hk hh hs e =
             heights-are = col heightOf heights hh (l .columns .heights-are);
             sizes-are = col sizeOf sizes hs (l .columns .sizes-are);
           };
-      work-is = e ∙ ap (λ (p : List ℕ). p ++ piece (headOf g)) (l .work-is) ∙ sym more;
-      full = ap length more ∙ omega (arith, length-append (pieces st) (piece (headOf g)), l .full);
+      work-is = ap (λ (n : ℕ). take n work′) q ∙ e ∙ ap (λ (p : List ℕ). p ++ piece (headOf g)) (l .work-is) ∙ sym more;
+      full = ap length more ∙ omega (arith, q, length-append (pieces st) (piece (headOf g)), l .full);
     }

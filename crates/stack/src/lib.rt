@@ -42,20 +42,14 @@ fn push(
     ensures { λ r. ⌜ Pushes s kind height (now (text .entry)) r (now (kinds .entry)) (now (heights .entry)) (now (sizes .entry)) (now (work .entry)) (now (kinds .exit)) (now (heights .exit)) (now (sizes .exit)) (now (work .exit)) ⌝ }
 {
     let depth = s.depth;
-    let top = s.top;
     let size = text.len();
     kinds[depth] = kind as u16;
     heights[depth] = height as u16;
     sizes[depth] = size as u16;
-    work[top] = (kind / 256) as u8;
-    work[top + 1] = (kind % 256) as u8;
-    work[top + 2] = (size / 256) as u8;
-    work[top + 3] = (size % 256) as u8;
-    let at = top + HEAD;
-    bytes::copy(text, &mut work[at..]);
+    let top = pieces::put(kind, text, s.top, work);
     Stack {
         depth: depth + 1,
-        top: at + size,
+        top,
         blocks: s.blocks,
     }
 }
