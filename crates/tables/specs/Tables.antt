@@ -1,8 +1,8 @@
 -- The unpacked table: "Three columns (types, child counts, lengths), one row an entry, and one area with the values and dangling labels end to end."
 use Prim.Native.Nat.{ℕ, zero, suc, _+_}
-use mathlib.Core.Bool.{Bool, cond, _&&_, _||_}
+use mathlib.Core.Bool.{Bool, not, cond, _&&_, _||_}
 use mathlib.Core.List.{List, [], _∷_}
-use lib.Dec.{leb, eqb}
+use lib.Dec.{leb, ltb, eqb}
 use lib.ListN.{length, take, drop}
 use Rattle.trees.specs.Rules.{maxType, maxValue, maxChildren, labelBytes, maxNodes}
 use Rattle.trees.specs.Rows.{Entry, node, tip}
@@ -61,9 +61,14 @@ table ts cs ls vs = record { types = ts; counts = cs; lengths = ls; values = vs 
 unfoldable pub columnsFit : List ℕ → List ℕ → List ℕ → Bool
 columnsFit ts cs ls = eqb (length cs) (length ts) && eqb (length ls) (length ts) && leb (length ts) maxNodes
 
--- what number 16 would not refuse: columns that fit, each row of the form, and a values area of "the sum of lengths"
+-- "each row (16)": one is not of the form
+abbrev pub rowBad : Table → Bool
+rowBad t = ltb (firstBad 0 (t .types) (t .counts) (t .lengths)) (length (t .types))
+
+-- not "values area not the sum of lengths (16)"
+abbrev pub areaFits : Table → Bool
+areaFits t = eqb (length (t .values)) (sum (t .lengths))
+
+-- what number 16 would not refuse: the three tests that the packer makes in turn
 unfoldable pub tableFits : Table → Bool
-tableFits t =
-    columnsFit (t .types) (t .counts) (t .lengths)
-    && eqb (firstBad 0 (t .types) (t .counts) (t .lengths)) (length (t .types))
-    && eqb (length (t .values)) (sum (t .lengths))
+tableFits t = columnsFit (t .types) (t .counts) (t .lengths) && not (rowBad t) && areaFits t

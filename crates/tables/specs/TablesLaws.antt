@@ -1,17 +1,17 @@
 -- What the tests of a table's form tell, and where a row's value lies.
 use Prim.Native.Nat.{ℕ, zero, suc, _+_, _≤_, _<_}
 use mathlib.Core.Path.{_≡_, refl, ap, _∙_}
-use mathlib.Core.Bool.{Bool, true, false, _&&_, _||_}
+use mathlib.Core.Bool.{Bool, true, false, not, cond, _&&_, _||_}
 use mathlib.Core.List.{List, [], _∷_, _++_}
 use native.Mathlib.Omega.{arith}
 use lib.Dec.{leb, eqb}
 use lib.ListN.{length, getD, take, drop}
 use lib.Seq.{drop-drop}
-use borrow.Author.Tests.{eqb-true, leb-true}
+use borrow.Author.Tests.{eqb-true, leb-true, ltb-false, not-true}
 use Rattle.trees.specs.Rules.{maxType, maxValue, maxChildren, labelBytes, maxNodes}
 use Rattle.trees.specs.Rows.{Entry}
 use Rattle.trees.specs.Tests.{and-left, and-right, or-cases}
-use Rattle.tables.specs.Tables.{Table, columnsFit, tableFits, internalRow, danglingRow, pairRow, rowFits, firstBad, sum, entries, entryOf}
+use Rattle.tables.specs.Tables.{Table, columnsFit, rowBad, areaFits, tableFits, internalRow, danglingRow, pairRow, rowFits, firstBad, sum, entries, entryOf}
 
 -- columns that fit
 pub record Columns (ts cs ls : List ℕ) : Type 0 where
@@ -38,17 +38,29 @@ pub record Formed (t : Table) : Type 0 where
   pub rows : firstBad 0 (t .types) (t .counts) (t .lengths) ≡ length (t .types)
   pub area : length (t .values) ≡ sum (t .lengths)
 
+-- the first bad row is at most the number of rows
+either-most : (b : Bool) (x y n : ℕ) → x ≤ n → y ≤ n → cond b x y ≤ n
+either-most true x y n p q = p
+either-most false x y n p q = q
+
+bad-most : (k : ℕ) (ts cs ls : List ℕ) → firstBad k ts cs ls ≤ k + length ts
+unfolding firstBad
+bad-most k [] cs ls = omega arith
+bad-most k (t ∷ ts) [] ls = omega arith
+bad-most k (t ∷ ts) (c ∷ cs) [] = omega arith
+bad-most k (t ∷ ts) (c ∷ cs) (l ∷ ls) =
+    either-most (rowFits t c l) (firstBad (k + 1) ts cs ls) k (k + length (t ∷ ts)) (omega (arith, bad-most (k + 1) ts cs ls)) (omega arith)
+
 pub table-told : (t : Table) → tableFits t ≡ true → Formed t
 unfolding tableFits
 table-told t e =
     let a = columnsFit (t .types) (t .counts) (t .lengths) in
-    let b = eqb (firstBad 0 (t .types) (t .counts) (t .lengths)) (length (t .types)) in
-    let d = eqb (length (t .values)) (sum (t .lengths)) in
-    let f = and-left (a && b) d e in
+    let f = and-left (a && not (rowBad t)) (areaFits t) e in
+    let n : ℕ = firstBad 0 (t .types) (t .counts) (t .lengths) in
     record {
-      columns = columns-told _ _ _ (and-left a b f);
-      rows = eqb-true _ _ (and-right a b f);
-      area = eqb-true _ _ (and-right (a && b) d e);
+      columns = columns-told _ _ _ (and-left a (not (rowBad t)) f);
+      rows = omega (arith, ltb-false n (length (t .types)) (not-true (rowBad t) (and-right a (not (rowBad t)) f)), bad-most 0 (t .types) (t .counts) (t .lengths));
+      area = eqb-true _ _ (and-right (a && not (rowBad t)) (areaFits t) e);
     }
 
 -- a row of the form has type 0 or is a pair

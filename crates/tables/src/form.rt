@@ -85,7 +85,7 @@ pub fn table_fits(types: &[u16], counts: &[u16], lengths: &[u16], values: &[u8])
     if !columns_fit(types, counts, lengths) {
         return false;
     }
-    if first_bad(types, counts, lengths) != types.len() {
+    if first_bad(types, counts, lengths) < types.len() {
         return false;
     }
     values.len() == sum(lengths)

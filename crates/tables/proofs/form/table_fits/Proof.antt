@@ -1,7 +1,7 @@
 use mathlib.Core.Path.{sym, _∙_}
 use native.Mathlib.Omega.{arith}
 use borrow.Author.Needs.{needs}
-use borrow.Author.Tests.{eq-eqb, ne-eqb, not-true, not-false}
+use borrow.Author.Tests.{lt-ltb, le-ltb, not-true, not-false}
 use Rattle.tables.specs.Tables.{tableFits}
 use Rattle.tables.specs.TablesLaws.{columns-told}
 use Rattle.tables.proofs.form.table_fits.Statement.{statement}
@@ -22,7 +22,7 @@ returns-2 c =
     simp (
       sym (c .before .before .before .columns-fit .ensures) ∙ not-false _ (c .before .before .if1 .left),
       sym (c .before .first-bad .ensures),
-      ne-eqb _ _ (c .if2 .taken),
+      lt-ltb _ _ (c .if2 .taken),
     )
 
 sum-requires : tie.Need-sum-requires
@@ -36,7 +36,7 @@ returns-3 c =
     simp (
       sym (c .before .before .before .before .columns-fit .ensures) ∙ not-false _ (c .before .before .before .if1 .left),
       sym (c .before .before .first-bad .ensures),
-      eq-eqb _ _ (c .before .if2 .left),
+      le-ltb _ _ (c .before .if2 .left),
       sym (c .sum .ensures),
     )
 
