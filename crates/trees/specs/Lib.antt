@@ -23,7 +23,9 @@ pub mod RowsLaws
 pub mod NumbersLaws
 pub mod StackLaws
 pub mod Forest
+pub mod Refused
 pub mod StackSound
+pub mod RefusedLaws
 pub mod Replies
 pub mod EndsLaws
 pub mod Demand3
