@@ -13,6 +13,7 @@ pub mod SlipTrees
 pub mod SlipTree
 pub mod SlipTreeLaws
 pub mod ByteTrees
+pub mod SlipRefusals
 pub mod RowLabelLaws
 pub mod Holding
 pub mod HoldingLaws
