@@ -2,4 +2,5 @@
 pub mod Columns
 pub mod Unpack
 pub mod ColumnsLaws
+pub mod UnpackLaws
 pub mod OneAnswer

@@ -4,10 +4,10 @@ use mathlib.Core.Bool.{Bool, not, cond, _||_}
 use mathlib.Core.List.{List, map}
 use mathlib.Core.Path.{_≡_}
 use lib.Dec.{ltb, eqb}
-use lib.ListN.{length}
+use lib.ListN.{length, take}
 use Rattle.trees.specs.Rows.{Entry}
 use Rattle.tables.specs.Refusals.{accepted, noRoom}
-use Rattle.tables.specs.Tables.{Table}
+use Rattle.tables.specs.Tables.{Table, sum}
 use Rattle.slips.specs.declared.answer.Answer.{Answer}
 use Rattle.slips.specs.Answers.{refused}
 use Rattle.slips.specs.Output.{over}
@@ -35,6 +35,16 @@ overAll t b =
       counts = over (t .counts) (b .counts);
       lengths = over (t .lengths) (b .lengths);
       values = over (t .values) (b .values);
+    }
+
+-- the table of n rows at the start of four buffers: its rows, and as many values as their lengths sum to
+abbrev pub tableIn : ℕ → Table → Table
+tableIn n b =
+    record {
+      types = take n (b .types);
+      counts = take n (b .counts);
+      lengths = take n (b .lengths);
+      values = take (sum (take n (b .lengths))) (b .values);
     }
 
 -- "slip, 11": an answer to a slip, and its table for the buffers b
