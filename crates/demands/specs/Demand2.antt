@@ -3,7 +3,7 @@
 -- slip. Pruning keeps the root label, and replaces each chosen subtree by its label only."
 use Prim.Native.Nat.{ℕ, _≤_}
 use mathlib.Core.Bool.{Bool, true}
-use mathlib.Core.List.{List, [], _++_}
+use mathlib.Core.List.{List, _++_}
 use mathlib.Core.Option.{some}
 use mathlib.Core.Path.{_≡_}
 use lib.ListN.{length}
@@ -12,6 +12,7 @@ use Rattle.trees.specs.Nodes.{Node, Run, inner, leaf, label, blocks}
 use Rattle.trees.specs.Places.{Place, nodeAt, stays, cut}
 use Rattle.trees.specs.PruneLaws.{cut-stays, cut-named}
 use Rattle.trees.specs.Rows.{rows, number}
+use Rattle.trees.specs.Rules.{WellFormed}
 use Rattle.tables.specs.Refusals.{accepted}
 use Rattle.tables.specs.Records.{named}
 use Rattle.tables.specs.Tables.{Table}
@@ -26,12 +27,14 @@ use Rattle.titles.specs.Compose.{composedText, acceptedWith, outcome}
 use Rattle.titles.specs.Titles.{title-nfc, accepted-nfc, equal-nfc}
 use Rattle.prune_rows.specs.Contracts.{pruned}
 use Rattle.slips.specs.Answers.{taken}
-use Rattle.slips.specs.Check.{readingOf, checkOf}
+use Rattle.slips.specs.Check.{countOf, checkOf}
 use Rattle.slips.specs.Output.{over}
-use Rattle.pack.specs.Pack.{rowsOf, answerOf, packOf}
-use Rattle.unpack.specs.Unpack.{tableOf, handedOf, unpackOf}
+use Rattle.pack.specs.Pack.{answerOf, packOf}
+use Rattle.unpack.specs.Unpack.{tableIn, tableOf, unpackOf}
+use Rattle.unpack.specs.UnpackLaws.{Room}
 use Rattle.slips.specs.SlipTrees.{SlipOf, check-complete, check-unique}
-use Rattle.pack.specs.RoundTrips.{slip-again, table-again}
+use Rattle.pack.specs.PackTrees.{TableOf, treeAnswer, pack-tree, pack-outcome, pack-sound, pack-unique}
+use Rattle.pack.specs.RoundTrips.{written, Again, written-checks, slip-again, table-again}
 use Rattle.slips.specs.SlipTree.{slipTree}
 use Rattle.slips.specs.ByteTrees.{accepted-slip}
 use Rattle.prune.specs.Prune.{pruneOf}
@@ -68,6 +71,37 @@ pub labels-told : (s : List ℕ) (n : Node) → Slip s n
     → checkOf Sha256.label composedText s ≡ taken (length s) (blocks Sha256.label n) (label Sha256.label n)
 labels-told s n x = check-complete Sha256.label composedText s n x
 
+-- t is the table of the tree n
+abbrev pub Tabled : Table → Node → Type 0
+Tabled t n = TableOf Sha256.label composedText t n
+
+-- the packer's: an accepted table is that of one well-formed tree, whose label and blocks are told and whose slip is written
+pub record TableLabelled (t : Table) (out : List ℕ) : Type 0 where
+  pub tree : Node
+  pub is : Tabled t tree
+  pub only : (n : Node) → Tabled t n → n ≡ tree
+  pub room : length (slipOf (rows tree)) ≤ length out
+  pub outcome :
+      packOf Sha256.label composedText t out
+      ≡ record { answer = taken (length (slipOf (rows tree))) (blocks Sha256.label tree) (label Sha256.label tree); bytes = over (slipOf (rows tree)) out }
+
+pub table-labels : (t : Table) (out : List ℕ) → packOf Sha256.label composedText t out .answer .number ≡ accepted → TableLabelled t out
+unfolding packOf
+table-labels t out e =
+    let x = pack-sound Sha256.label composedText t (length out) e in
+    record {
+      tree = x .0;
+      is = x .1;
+      only = λ n y. pack-unique Sha256.label composedText t n (x .0) y (x .1);
+      room = x .2;
+      outcome = pack-outcome Sha256.label composedText t (x .0) out (x .1) (x .2);
+    }
+
+-- and the table of every well-formed tree is accepted with them where its slip has room, or refused for its size or the room alone
+pub table-labels-told : (n : Node) (room : ℕ) → WellFormed Sha256.label composedText n
+    → answerOf Sha256.label composedText (tableOf (rows n)) room ≡ treeAnswer Sha256.label composedText n room
+table-labels-told n room w = pack-tree Sha256.label composedText n room w
+
 -- "A title is stored in the composed form of Unicode (NFC) within our repertoire": what is accepted is written in NFC
 pub nfc-stored : (title out : List ℕ) → outcome title out .answer .number ≡ Titles.accepted
     → (allPlain (nfc (decode title)) ≡ true) × (outcome title out ≡ acceptedWith (encodes (nfc (decode title))) out)
@@ -83,16 +117,25 @@ pub nfc-alike : (x y out : List ℕ) → length x ≤ Titles.maxBytes → length
     → outcome x out .answer .number ≡ Titles.accepted → outcome y out ≡ outcome x out
 nfc-alike x y out ux uy e z = equal-nfc x y out ux uy e z
 
--- "a slip unpacked and packed is the same slip"
-pub slip-same : (s : List ℕ) → Below 256 s → checkOf Sha256.label composedText s .number ≡ accepted → (out : List ℕ) → length s ≤ length out
-    → packOf Sha256.label composedText (tableOf (readingOf s .rows)) out ≡ record { answer = checkOf Sha256.label composedText s; bytes = over s out }
-slip-same s bytes e out room =
-    slip-again Sha256.label composedText s (slipTree s) (accepted-slip Sha256.label composedText s bytes e) out room
+-- "A table packed and unpacked is the same table": what the packer writes, unpacked into buffers with room, gives the packer's answer, and
+-- the table stands in the buffers
+pub table-same : (t : Table) (out : List ℕ) → Below 256 (t .values) → packOf Sha256.label composedText t out .answer .number ≡ accepted
+    → (b : Table) → Room t b
+    → Again t b (packOf Sha256.label composedText t out) (unpackOf Sha256.label composedText (written (packOf Sha256.label composedText t out)) b)
+table-same t out bytes e b room = table-again Sha256.label composedText t out bytes e b room
 
--- "A table packed and unpacked is the same table": the slip that the packer writes hands out that table
-pub table-same : (t : Table) (room : ℕ) → Below 256 (t .values) → answerOf Sha256.label composedText t room .number ≡ accepted
-    → (b : Table) → unpackOf Sha256.label composedText (slipOf (rowsOf t)) b ≡ handedOf (checkOf Sha256.label composedText (slipOf (rowsOf t))) t b
-table-same t room bytes e b = table-again Sha256.label composedText t room bytes e b
+-- and it checks, with what was reported
+pub packing-checks : (t : Table) (out : List ℕ) → Below 256 (t .values) → packOf Sha256.label composedText t out .answer .number ≡ accepted
+    → checkOf Sha256.label composedText (written (packOf Sha256.label composedText t out)) ≡ packOf Sha256.label composedText t out .answer
+packing-checks t out bytes e = written-checks Sha256.label composedText t out bytes e
+
+-- "a slip unpacked and packed is the same slip": the rows that the unpacker leaves in its buffers, as many as the slip names, with their
+-- values, packed where the slip has room
+pub slip-same : (s : List ℕ) → Below 256 s → (b : Table) → unpackOf Sha256.label composedText s b .answer .number ≡ accepted
+    → (out : List ℕ) → length s ≤ length out
+    → packOf Sha256.label composedText (tableIn (countOf s) (unpackOf Sha256.label composedText s b .buffers)) out
+    ≡ record { answer = unpackOf Sha256.label composedText s b .answer; bytes = over s out }
+slip-same s bytes b e out room = slip-again Sha256.label composedText s bytes b e out room
 
 -- "Pruning keeps the root label": what is written is the slip of the tree cut at the named nodes, with the same label, and never longer
 pub pruning : (s list out : List ℕ) → Below 256 s → pruneOf Sha256.label composedText s list out .answer .number ≡ accepted

@@ -3,6 +3,7 @@ pub mod Refusals
 pub mod Demand1
 pub mod TitleRefusals
 pub mod Demand2
+pub mod Sixteen
 pub mod Library
 pub mod LibraryLaws
 pub mod Demand3

@@ -9,7 +9,7 @@ use lib.ListN.{length}
 use Rattle.trees.specs.Rules.{maxBytes}
 use Rattle.trees.specs.Rows.{Entry, Verdict, faulty, left, verdict}
 use Rattle.tables.specs.Refusals.{accepted, tooLong, noNodes, notOneTree, noRoom, badTable}
-use Rattle.tables.specs.Tables.{Table, entries, columnsFit, firstBad, sum}
+use Rattle.tables.specs.Tables.{Table, entries, columnsFit, firstBad, rowBad, areaFits}
 use Rattle.tables.specs.TablesLaws.{Formed}
 use Rattle.codec.specs.Writing.{slipOf}
 use Rattle.engine.specs.Engine.{oneTree, rootLabel}
@@ -26,13 +26,14 @@ rowsOf t = entries (t .types) (t .counts) (t .lengths) (t .values)
 abbrev pub badRow : Table → ℕ
 badRow t = firstBad 0 (t .types) (t .counts) (t .lengths)
 
--- "columns unequal or over 1,023 rows (16), 4, each row (16), values area not the sum of lengths (16)": the refusal and its place
+-- "columns unequal or over 1,023 rows (16), 4, each row (16), values area not the sum of lengths (16)": the refusal and its place. The tests
+-- of 16 are those of `tableFits`.
 unfoldable pub faultOf : Table → Fault
 faultOf t =
     cond (not (columnsFit (t .types) (t .counts) (t .lengths))) (record { number = badTable; place = 0 })
     (cond (eqb (length (t .types)) 0) (record { number = noNodes; place = 0 })
-    (cond (ltb (badRow t) (length (t .types))) (record { number = badTable; place = badRow t })
-    (cond (eqb (length (t .values)) (sum (t .lengths))) (record { number = accepted; place = 0 }) (record { number = badTable; place = 0 }))))
+    (cond (rowBad t) (record { number = badTable; place = badRow t })
+    (cond (areaFits t) (record { number = accepted; place = 0 }) (record { number = badTable; place = 0 }))))
 
 -- "then 5 to 8 by entry, 9, 11", where the output has so much room
 unfoldable pub judgedAs : List Entry → ℕ → Verdict → Answer

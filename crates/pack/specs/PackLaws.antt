@@ -1,25 +1,26 @@
 -- The packer's tests, one after the other.
 use Prim.Native.Nat.{ℕ, _+_, _*_, _/_, _≤_, _<_}
-use mathlib.Core.Bool.{Bool, true, false, not, cond}
+use mathlib.Core.Bool.{Bool, true, false, not, cond, true≢false}
 use mathlib.Core.List.{List, [], _∷_}
 use mathlib.Core.Path.{_≡_, refl, sym, ap, _∙_}
 use native.Mathlib.Omega.{arith}
-use borrow.Author.Tests.{lt-ltb, le-ltb, ltb-false, eq-eqb, ne-eqb, eqb-true, not-false}
+use borrow.Author.Tests.{lt-ltb, le-ltb, ltb-false, eq-eqb, ne-eqb, eqb-true, eqb-false}
 use lib.Dec.{ltb, eqb}
 use lib.ListN.{length}
 use Rattle.trees.specs.Rules.{maxBytes}
-use Rattle.trees.specs.Rows.{Entry, Verdict, faulty, left, verdict}
+use Rattle.trees.specs.Lists.{all}
+use Rattle.trees.specs.Rows.{Entry, formed, Tag, Verdict, faulty, left, verdict}
 use Rattle.tables.specs.Refusals.{accepted, tooLong, noNodes, notOneTree, noRoom, badTable}
-use Rattle.tables.specs.Tables.{Table, rowFits, firstBad, columnsFit, sum}
-use Rattle.tables.specs.TablesLaws.{Formed, columns-told}
+use Rattle.tables.specs.Tables.{Table, rowFits, firstBad, columnsFit, rowBad, areaFits, tableFits, sum}
+use Rattle.tables.specs.TablesLaws.{Formed, table-told}
 use Rattle.codec.specs.Writing.{slipOf}
 use Rattle.codec.specs.Measure.{rowBits, rowsBits, tableBits}
 use Rattle.codec.specs.MeasureLaws.{slip-bytes-measured, node-bits, dangling-bits, pair-bits}
+use Rattle.codec.specs.ProperLaws.{table-formed}
 use Rattle.codec.specs.TableLaws.{row-cases, form-cons}
-use Rattle.engine.specs.Engine.{told}
+use Rattle.engine.specs.Engine.{oneTree, rootLabel, told}
 use Rattle.engine.specs.declared.judge.Judged.{Judged}
 use Rattle.slips.specs.declared.answer.Answer.{Answer}
-use Rattle.pack.specs.declared.Fault.{Fault}
 use Rattle.slips.specs.Answers.{refused, taken}
 use Rattle.slips.specs.Verdicts.{Refuses, verdict-refuses}
 use Rattle.pack.specs.Pack.{rowsOf, badRow, faultOf, judgedAs, answerOf, packOf}
@@ -55,46 +56,32 @@ module _ (t : Table) where
             (rw
             (p, ne-eqb (length (t .types)) 0 q, le-ltb (badRow t) (length (t .types)) r, eq-eqb (length (t .values)) (sum (t .lengths)) h))
 
--- the refusal by the outcomes of the tests
-faultBy : Bool → Bool → Bool → Bool → ℕ → Fault
-faultBy columns empty row area bad =
-    cond columns (record { number = badTable; place = 0 })
-    (cond empty (record { number = noNodes; place = 0 })
-    (cond row (record { number = badTable; place = bad })
-    (cond area (record { number = accepted; place = 0 }) (record { number = badTable; place = 0 }))))
+-- 16 and a table that doesn't fit, 4 and no rows, or no refusal and a table that fits
+pub fault-cases : {C : Type 0} (t : Table) → (faultOf t .number ≡ badTable → tableFits t ≡ false → C)
+    → (faultOf t .number ≡ noNodes → length (t .types) ≡ 0 → C) → (faultOf t .number ≡ accepted → tableFits t ≡ true → C) → C
+unfolding faultOf tableFits
+fault-cases {C} t f g h =
+    go (columnsFit (t .types) (t .counts) (t .lengths)) refl (eqb (length (t .types)) 0) refl (rowBad t) refl (areaFits t) refl
+  where
+    go : (columns : Bool) → columnsFit (t .types) (t .counts) (t .lengths) ≡ columns → (empty : Bool) → eqb (length (t .types)) 0 ≡ empty
+        → (row : Bool) → rowBad t ≡ row → (area : Bool) → areaFits t ≡ area → C
+    go false c empty z row r area a = f (rw c) (rw c)
+    go true c true z row r area a = g (rw (c, z)) (eqb-true (length (t .types)) 0 z)
+    go true c false z true r area a = f (rw (c, z, r)) (rw (c, r))
+    go true c false z false r false a = f (rw (c, z, r, a)) (rw (c, r, a))
+    go true c false z false r true a = h (rw (c, z, r, a)) (rw (c, r, a))
 
-free-by : (columns empty row area : Bool) (bad : ℕ) → faultBy columns empty row area bad .number ≡ accepted → (columns ≡ false) × (row ≡ false) × (area ≡ true)
-unfolding faultBy
-free-by true empty row area bad e = absurd (omega (arith, e))
-free-by false true row area bad e = absurd (omega (arith, e))
-free-by false false true area bad e = absurd (omega (arith, e))
-free-by false false false false bad e = absurd (omega (arith, e))
-free-by false false false true bad e = (refl, refl, refl)
+-- "A table that number 16 would refuse": where there are rows it is one that doesn't fit, and no other
+pub refused-unfit : (t : Table) → faultOf t .number ≡ badTable → tableFits t ≡ false
+refused-unfit t e = fault-cases t (λ n u. u) (λ n u. absurd (omega (arith, e, n))) (λ n u. absurd (omega (arith, e, n)))
 
-either-most : (b : Bool) (x y n : ℕ) → x ≤ n → y ≤ n → cond b x y ≤ n
-either-most true x y n p q = p
-either-most false x y n p q = q
-
-bad-most : (k : ℕ) (ts cs ls : List ℕ) → firstBad k ts cs ls ≤ k + length ts
-unfolding firstBad
-bad-most k [] cs ls = omega arith
-bad-most k (t ∷ ts) [] ls = omega arith
-bad-most k (t ∷ ts) (c ∷ cs) [] = omega arith
-bad-most k (t ∷ ts) (c ∷ cs) (l ∷ ls) =
-    either-most (rowFits t c l) (firstBad (k + 1) ts cs ls) k (k + length (t ∷ ts)) (omega (arith, bad-most (k + 1) ts cs ls)) (omega arith)
+pub unfit-refused : (t : Table) → (length (t .types) ≡ 0 → ⊥) → tableFits t ≡ false → faultOf t .number ≡ badTable
+unfit-refused t some e = fault-cases t (λ n u. n) (λ n u. absurd (some u)) (λ n u. absurd (true≢false (sym u ∙ e)))
 
 -- a table that is not refused has the form
 pub fault-told : (t : Table) → faultOf t .number ≡ accepted → Formed t
-unfolding faultOf faultBy
 fault-told t e =
-    let x =
-    free-by (not (columnsFit (t .types) (t .counts) (t .lengths))) (eqb (length (t .types)) 0) (ltb (badRow t) (length (t .types)))
-    (eqb (length (t .values)) (sum (t .lengths))) (badRow t) e in
-    record {
-      columns = columns-told (t .types) (t .counts) (t .lengths) (not-false (columnsFit (t .types) (t .counts) (t .lengths)) (x .0));
-      rows = omega (arith, ltb-false (badRow t) (length (t .types)) (x .1), bad-most 0 (t .types) (t .counts) (t .lengths));
-      area = eqb-true (length (t .values)) (sum (t .lengths)) (x .2);
-    }
+    fault-cases t (λ n u. absurd (omega (arith, e, n))) (λ n u. absurd (omega (arith, e, n))) (λ n u. table-told t u)
 
 -- a row's bits hold its value
 row-holds : (t c l : ℕ) → rowFits t c l ≡ true → 8 * l ≤ rowBits t c l
@@ -177,6 +164,43 @@ module _ (H : List ℕ → List ℕ) (composed : List ℕ → Bool) (t : Table) 
               → taken (length (slipOf (rowsOf t))) (j .blocks) (j .label) ≡ answerOf H composed t room
           unfolding judgedBy
           answer-taken h = sym (rw (eq-eqb (j .number) accepted r, s, le-ltb room (length (slipOf (rowsOf t))) h)) ∙ by
+
+-- the entries of a table of the form are of the form
+pub rows-of-formed : (t : Table) → Formed t → all formed (rowsOf t) ≡ true
+rows-of-formed t f = table-formed 0 (t .types) (t .counts) (t .lengths) (t .values) (f .rows ∙ omega arith) (omega (arith, f .area))
+
+-- equal answers have one number
+pub number-of : {a b : Answer} {k : ℕ} → a ≡ b → a .number ≡ k → b .number ≡ k
+number-of is e = sym (ap (λ (x : Answer). x .number) is) ∙ e
+
+-- an answer is the form's refusal, 1, or what the entries are judged as
+pub answer-cases : (H : List ℕ → List ℕ) (composed : List ℕ → Bool) {C : Type 0} (t : Table) (room : ℕ)
+    → ((faultOf t .number ≡ accepted → ⊥) → answerOf H composed t room ≡ refused (faultOf t .number) (faultOf t .place) → C)
+    → (Formed t → answerOf H composed t room ≡ refused tooLong 0 → C)
+    → (Formed t → length (slipOf (rowsOf t)) ≤ maxBytes → answerOf H composed t room ≡ judgedAs (rowsOf t) room (verdict H composed (rowsOf t)) → C)
+    → C
+unfolding answerOf
+answer-cases H composed {C} t room f g h = go (eqb (faultOf t .number) accepted) refl (ltb maxBytes (length (slipOf (rowsOf t)))) refl
+  where
+    go : (free : Bool) → eqb (faultOf t .number) accepted ≡ free → (long : Bool) → ltb maxBytes (length (slipOf (rowsOf t))) ≡ long → C
+    go false e long l = f (eqb-false (faultOf t .number) accepted e) (rw e)
+    go true e true l = g (fault-told t (eqb-true (faultOf t .number) accepted e)) (rw (e, l))
+    go true e false l =
+        h (fault-told t (eqb-true (faultOf t .number) accepted e)) (ltb-false maxBytes (length (slipOf (rowsOf t))) l) (rw (e, l))
+
+-- entries that are not refused are 9, 11 or taken
+pub judged-cases : {C : Type 0} (es : List Entry) (room : ℕ) (st : List Tag) (b : ℕ)
+    → (oneTree st ≡ false → judgedAs es room (left st b) ≡ refused notOneTree 0 → C)
+    → (judgedAs es room (left st b) ≡ refused noRoom 0 → C)
+    → (oneTree st ≡ true → length (slipOf es) ≤ room → judgedAs es room (left st b) ≡ taken (length (slipOf es)) b (rootLabel st) → C)
+    → C
+unfolding judgedAs
+judged-cases {C} es room st b f g h = go (oneTree st) refl (ltb room (length (slipOf es))) refl
+  where
+    go : (one : Bool) → oneTree st ≡ one → (short : Bool) → ltb room (length (slipOf es)) ≡ short → C
+    go false e short l = f e (rw e)
+    go true e true l = g (rw (e, l))
+    go true e false l = h e (ltb-false room (length (slipOf es)) l) (rw (e, l))
 
 module _ (H : List ℕ → List ℕ) (composed : List ℕ → Bool) (t : Table) (out : List ℕ) {a : Answer} (e : a ≡ answerOf H composed t (length out)) where
   pub pack-refused : (a .number ≡ accepted → ⊥) → Packs (packOf H composed t out) a out
