@@ -11,7 +11,7 @@ use lib.Seq.{drop-cons}
 use borrow.Author.Tests.{lt-leb, le-leb, lt-ltb, le-ltb, ltb-true, ltb-false}
 use Rattle.tables.specs.Records.{named, firstFault}
 use Rattle.prune_rows.specs.Steps.{Before}
-use Rattle.prune_rows.specs.ListRule.{Rising, clean-rule, named-at, named-not}
+use Rattle.tables.specs.ListRule.{Rising, clean-rule, named-at, named-not}
 
 -- one number is below another, or it is not
 below-or {ℓ} : {C : Type ℓ} (a b : ℕ) → (a < b → C) → (b ≤ a → C) → C

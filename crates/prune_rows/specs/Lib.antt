@@ -3,10 +3,11 @@ pub mod Contracts
 pub mod Marks
 pub mod Picked
 pub mod Steps
+pub mod Names
 -- The definitions on a small tree, computed:
 pub mod Examples
 -- Theorems:
-pub mod ListRule
+pub mod NamesLaws
 pub mod PrunedLaws
 pub mod Width
 -- The laws behind them:

@@ -25,7 +25,7 @@ use Rattle.prune_rows.specs.MarksLaws.{walk-marks, cut-off-named}
 use Rattle.prune_rows.specs.PickedLaws.{picked-take, picked-agree, length-label-rows, label-rows-at}
 use Rattle.prune_rows.specs.PickedTrees.{picked-rows}
 use Rattle.prune_rows.specs.TableLaws.{entries-counts, entries-at}
-use Rattle.prune_rows.specs.ListRule.{named-inner}
+use Rattle.tables.specs.ListRule.{named-inner}
 
 -- a row looks at its label only where it has children
 same-row : (m t c : ℕ) (v x y : List ℕ) → (0 < c → x ≡ y) → rowBy m (entryOf t c v) x ≡ rowBy m (entryOf t c v) y

@@ -8,7 +8,7 @@ ghost use Rattle.trees.specs.Rules.{maxNodes};
 ghost use Rattle.tables.specs.Records.{named, firstFault};
 ghost use Rattle.prune_rows.specs.Marks.{markBy, owedBy, walk, atEnd};
 ghost use Rattle.prune_rows.specs.Steps.{Before};
-ghost use Rattle.prune_rows.specs.ListRule.{Rising};
+ghost use Rattle.tables.specs.ListRule.{Rising};
 
 pub struct Mark {}
 

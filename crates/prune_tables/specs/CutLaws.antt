@@ -1,18 +1,17 @@
 -- The list's test, and the pruned table.
-use Prim.Native.Nat.{ℕ, _+_, _≤_, _<_}
-use mathlib.Core.Bool.{Bool, true, false, cond, _&&_}
-use mathlib.Core.List.{List, [], _∷_}
+use Prim.Native.Nat.{ℕ, _≤_, _<_}
+use mathlib.Core.List.{List}
 use mathlib.Core.Path.{_≡_, refl, sym, _∙_, subst}
 use native.Mathlib.Omega.{arith}
 use borrow.Author.Tests.{lt-ltb, le-ltb}
-use lib.Dec.{ltb, leb}
-use lib.ListN.{length, take, getD}
+use lib.ListN.{length, take}
 use lib.Seq.{length-take-le}
 use Rattle.trees.specs.Nodes.{Node, label}
 use Rattle.trees.specs.PruneLaws.{cut-label}
 use Rattle.trees.specs.Rows.{number, prunedRows}
 use Rattle.tables.specs.Refusals.{badList}
 use Rattle.tables.specs.Records.{TreeTable, Holds, named, firstFault}
+use Rattle.tables.specs.ListRule.{fault-within}
 use Rattle.prune_rows.specs.Contracts.{Written, Prunes, pruned}
 use Rattle.prune_rows.specs.PrunedLaws.{rows-pruned}
 use Rattle.slips.specs.declared.answer.Answer.{Answer}
@@ -24,16 +23,6 @@ use Rattle.prune_tables.specs.Pruned.{prunedOf}
 -- an outcome by another name
 pub packs-as : {p q : Packed} {r : Answer} {out : List ℕ} → p ≡ q → Packs p r out → Packs q r out
 packs-as {r = r} {out} e x = subst (λ (y : Packed). Packs y r out) e x
-
-either-most : (b : Bool) (x y n : ℕ) → x ≤ n → y ≤ n → cond b x y ≤ n
-either-most true x y n p q = p
-either-most false x y n p q = q
-
-fault-within : (counts : List ℕ) (i low : ℕ) (list : List ℕ) → firstFault counts i low list ≤ i + length list
-unfolding firstFault
-fault-within counts i low [] = omega arith
-fault-within counts i low (x ∷ xs) =
-    either-most (leb low x && ltb 0 (getD counts x 0)) _ i _ (omega (arith, fault-within counts (i + 1) (x + 1) xs)) (omega arith)
 
 -- a list of which no number is found faulty is clean
 pub fault-none : (counts list : List ℕ) → length list ≤ firstFault counts 0 0 list → firstFault counts 0 0 list ≡ length list

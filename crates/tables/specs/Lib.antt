@@ -5,3 +5,4 @@ pub mod Refusals
 pub mod Tables
 pub mod TablesLaws
 pub mod Records
+pub mod ListRule

@@ -6,13 +6,14 @@ use mathlib.Core.Option.{some}
 use Prim.Native.Nat.{ℕ, zero, suc, _+_, _-_, _<_, _≤_}
 use native.Mathlib.Omega.{arith}
 use lib.Dec.{ltb}
-use lib.ListN.{length, length-append}
+use lib.ListN.{length, getD, length-append}
+use lib.Seq.{getD-at}
 use borrow.Author.Tests.{ltb-true, ltb-false}
 use Rattle.trees.specs.Lists.{none-some, some-inj}
 use Rattle.trees.specs.Nodes.{Node, Run, inner, leaf, nil, cons, count, size, sizes, label}
 use Rattle.trees.specs.Places.{Place, nodeAt, childAt, cut, cutIn}
-use Rattle.trees.specs.Rows.{Entry, node, tip, rows, rowsIn, number, numberIn, prunedRows, prunedRowsIn}
-use Rattle.trees.specs.RowsLaws.{length-rows}
+use Rattle.trees.specs.Rows.{Entry, node, tip, rows, rowsIn, lastRow, number, numberIn, prunedRows, prunedRowsIn}
+use Rattle.trees.specs.RowsLaws.{length-rows, length-rows-in}
 
 -- an entry number is below the number of nodes
 mutual
@@ -132,6 +133,27 @@ mutual
   rows-at-in (cons n r) (suc i) p x e =
       subst (λ (k : ℕ). Within (rows n ++ rowsIn r) x (k + numberIn r i p)) (length-rows n)
       (before (rows n) (rowsIn r) x (numberIn r i p) (rows-at-in r i p x e))
+
+-- the root's entry behind all others of the tree
+record Rooted (x : Node) : Type 0 where
+  pub front : List Entry
+  pub split : rows x ≡ front ++ (lastRow x ∷ [])
+  pub long : length front + 1 ≡ size x
+
+root-last : (x : Node) → Rooted x
+root-last (inner r) = record { front = rowsIn r; split = refl; long = ap (λ (k : ℕ). k + 1) (length-rows-in r) }
+root-last (leaf t v) = record { front = []; split = refl; long = omega arith }
+
+-- the entry with the number of a node is that node's
+pub entry-at : (n : Node) (p : Place) (x : Node) → nodeAt n p ≡ some x → (d : Entry) → getD (rows n) (number n p) d ≡ lastRow x
+entry-at n p x e d =
+    let w : Within (rows n) x (number n p) = rows-at n p x e in
+    let y : Rooted x = root-last x in
+    let split : rows n ≡ (w .front ++ y .front) ++ (lastRow x ∷ w .back) =
+    w .split ∙ ap (λ (l : List Entry). w .front ++ (l ++ w .back)) (y .split) ∙ simp append-assoc in
+    ap (λ (l : List Entry). getD l (number n p) d) split
+    ∙ getD-at (w .front ++ y .front) (lastRow x) (w .back) d (number n p)
+    (length-append (w .front) (y .front) ∙ omega (arith, w .ends, y .long))
 
 moved : (a b c : ℕ) → a + (b + c) ≡ a + b + c
 moved a b c = omega arith

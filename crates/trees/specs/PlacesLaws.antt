@@ -1,10 +1,10 @@
 -- What a tree discloses at a place stands there.
-use mathlib.Core.Path.{_≡_, refl}
+use mathlib.Core.Path.{_≡_, refl, ap}
 use mathlib.Core.List.{List, [], _∷_}
 use mathlib.Core.Option.{some}
 use Prim.Native.Nat.{ℕ, zero, suc}
 use native.Mathlib.Omega.{arith}
-use Rattle.trees.specs.Lists.{none-some}
+use Rattle.trees.specs.Lists.{none-some, some-inj}
 use Rattle.trees.specs.Nodes.{Node, Run, inner, leaf, nil, cons, prelabel, heads}
 use Rattle.trees.specs.Places.{Place, nodeAt, childAt, opened, paired, leafTells, tells, tellsIn}
 
@@ -12,6 +12,10 @@ use Rattle.trees.specs.Places.{Place, nodeAt, childAt, opened, paired, l
 pub at-root : (n : Node) → nodeAt n [] ≡ some n
 at-root (inner r) = refl
 at-root (leaf t v) = refl
+
+-- no leaf is an internal node
+pub leaf-inner : {t : ℕ} {v : List ℕ} {r : Run} → leaf t v ≡ inner r → ⊥
+leaf-inner e = let z : _≡_ {A = ℕ} 0 1 = cc in omega arith
 
 -- what is opened is one prelabel
 pub opened-inj : {x y : List ℕ} → some (opened x) ≡ some (opened y) → x ≡ y
@@ -46,7 +50,20 @@ module _ (H : List ℕ → List ℕ) where
     opened-in-at (cons n r) zero p x e = opened-at n p x e
     opened-in-at (cons n r) (suc i) p x e = opened-in-at r i p x e
 
-  -- and where a pair is disclosed stands that pair
+  -- and an internal node discloses its prelabel
+  mutual
+    pub at-opened : (n : Node) (p : Place) (r : Run) → nodeAt n p ≡ some (inner r) → tells H n p ≡ some (opened (prelabel (heads H r)))
+    at-opened (inner s) [] r e = ap (λ (n : Node). tells H n []) (some-inj e)
+    at-opened (inner s) (i ∷ p) r e = at-opened-in s i p r e
+    at-opened (leaf t v) [] r e = absurd (leaf-inner (some-inj e))
+    at-opened (leaf t v) (i ∷ p) r e = absurd (none-some e)
+
+    pub at-opened-in : (s : Run) (i : ℕ) (p : Place) (r : Run) → childAt s i p ≡ some (inner r) → tellsIn H s i p ≡ some (opened (prelabel (heads H r)))
+    at-opened-in nil i p r e = absurd (none-some e)
+    at-opened-in (cons n s) zero p r e = at-opened n p r e
+    at-opened-in (cons n s) (suc i) p r e = at-opened-in s i p r e
+
+  -- where a pair is disclosed stands that pair
   mutual
     pub paired-at : (n : Node) (p : Place) (t : ℕ) (v : List ℕ) → tells H n p ≡ some (paired t v) → nodeAt n p ≡ some (leaf t v)
     paired-at (inner r) [] t v e = absurd (inner-unpaired e)

@@ -11,11 +11,8 @@ use Rattle.trees.specs.Tests.{and-left, and-right, and-both}
 use Rattle.trees.specs.Lists.{same, same-true, none-some, some-inj}
 use Rattle.trees.specs.Nodes.{Node, Run, inner, leaf, nil, cons, prelabel, label, heads}
 use Rattle.trees.specs.Places.{Place, nodeAt, childAt, isDangling, stays, Le, LeIn, cut, cutIn, EqualBut, EqualButIn}
-use Rattle.trees.specs.PlacesLaws.{at-root}
+use Rattle.trees.specs.PlacesLaws.{at-root, leaf-inner}
 use Rattle.trees.specs.OrderLaws.{le-label}
-
-leaf-inner : {t : ℕ} {v : List ℕ} {r : Run} → leaf t v ≡ inner r → ⊥
-leaf-inner e = let z : _≡_ {A = ℕ} 0 1 = cc in omega arith
 
 module _ (H : List ℕ → List ℕ) where
   -- an internal node, cut or kept
@@ -72,19 +69,19 @@ module _ (H : List ℕ → List ℕ) where
   either-eq false true x y z e h = absurd (false≢true e)
   either-eq false false x y z e h = h refl
 
-  -- names count only at nodes that stay
+  -- names count only at internal nodes that stay
   mutual
-    pub cut-agree : (f g : Place → Bool) (n : Node) → ((p : Place) (m : Node) → nodeAt n p ≡ some m → stays f p ≡ true → f p ≡ g p)
+    pub cut-agree : (f g : Place → Bool) (n : Node) → ((p : Place) (m : Run) → nodeAt n p ≡ some (inner m) → stays f p ≡ true → f p ≡ g p)
         → cut H f n ≡ cut H g n
     cut-agree f g (inner r) h =
         either-eq (f []) (g []) (leaf 0 (H (prelabel (heads H r)))) (inner (cutIn H (λ i p. f (i ∷ p)) r)) (inner (cutIn H (λ i p. g (i ∷ p)) r))
-        (h [] (inner r) refl refl)
+        (h [] r refl refl)
         (λ e. ap inner (cut-in-agree (λ i p. f (i ∷ p)) (λ i p. g (i ∷ p)) r
         (λ i p m at k. h (i ∷ p) m at (and-both (not (f [])) (stays (λ q. f (i ∷ q)) p) (ap not e) k))))
     cut-agree f g (leaf t v) h = refl
 
     pub cut-in-agree : (f g : ℕ → Place → Bool) (r : Run)
-        → ((i : ℕ) (p : Place) (m : Node) → childAt r i p ≡ some m → stays (f i) p ≡ true → f i p ≡ g i p) → cutIn H f r ≡ cutIn H g r
+        → ((i : ℕ) (p : Place) (m : Run) → childAt r i p ≡ some (inner m) → stays (f i) p ≡ true → f i p ≡ g i p) → cutIn H f r ≡ cutIn H g r
     cut-in-agree f g nil h = refl
     cut-in-agree f g (cons n r) h =
         λ i. cons (cut-agree (f 0) (g 0) n (λ p m at k. h 0 p m at k) i)

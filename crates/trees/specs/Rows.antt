@@ -29,6 +29,11 @@ abbrev mutual
   rowsIn nil = []
   rowsIn (cons n r) = rows n ++ rowsIn r
 
+-- the entry of a tree's root, its last
+abbrev pub lastRow : Node → Entry
+lastRow (inner r) = node (count r)
+lastRow (leaf t v) = tip t v
+
 -- the entry number of the node at a place, "numbered from 0"; a tree's root is its last entry
 abbrev mutual
   pub number : Node → Place → ℕ

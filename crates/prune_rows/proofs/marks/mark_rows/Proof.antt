@@ -8,7 +8,7 @@ use lib.ListN.{length, length-set}
 use Rattle.tables.specs.Records.{named}
 use Rattle.prune_rows.specs.Marks.{markBy, owedBy}
 use Rattle.prune_rows.specs.Steps.{Before}
-use Rattle.prune_rows.specs.ListRule.{clean-rule}
+use Rattle.tables.specs.ListRule.{clean-rule}
 use Rattle.prune_rows.proofs.Naming.{before-all}
 use Rattle.prune_rows.proofs.Marking.{Walked, walked-none, walked-more, walked-all, owed-low}
 use borrow.Author.Needs.{needs}
