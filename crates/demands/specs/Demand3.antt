@@ -2,7 +2,7 @@
 -- root reaches each at least once, repeated and in its own order; every other arrival is malformed or has another root. If neither answers
 -- that a slip doesn't fit, then either both hold the same bytes, disclosing exactly what some slip with that root discloses at each place,
 -- or each has been shown two different texts with one hash."
-use Prim.Native.Nat.{ℕ}
+use Prim.Native.Nat.{ℕ, _≤_}
 use mathlib.Core.Bool.{Bool, true, false, true≢false}
 use mathlib.Core.List.{List}
 use mathlib.Core.Logic.{_⊎_, inl, inr}
@@ -16,7 +16,7 @@ use Rattle.trees.specs.Join.{Collision}
 use Rattle.trees.specs.Ends.{bare, Got, Agree, WasShown}
 use Rattle.trees.specs.Ends as Ends
 use Rattle.trees.specs.Demand3 as Trees
-use Rattle.trees.specs.Rows.{rows}
+use Rattle.trees.specs.Rows.{rows, number}
 use Rattle.codec.specs.Writing.{slipOf}
 use Rattle.sha2.specs.Sha256 as Sha256
 use Rattle.titles.specs.Compose.{composedText}
@@ -24,8 +24,10 @@ use Rattle.slips.specs.declared.answer.Answer.{Answer}
 use Rattle.slips.specs.SlipTrees.{check-complete}
 use Rattle.slips.specs.SlipTree.{slipTree}
 use Rattle.slips.specs.SlipTreeLaws.{slip-tree}
+use Rattle.prune.specs.PruneTheorems.{PrunesTo, le-prunes}
+use Rattle.join_tables.specs.Joined.{clashed}
 use Rattle.demands.specs.Library.{Arrival, start, Reached, misfits, clashes, ever, Ours, copy, Shown, Same}
-use Rattle.demands.specs.LibraryLaws.{read, fits, Stands, stands-bare, stands-run, misfit-run, clash-run, read-roots, got-from, got-reached}
+use Rattle.demands.specs.LibraryLaws.{ever-there, read, fits, Stands, stepped, stands-bare, stands-run, misfit-run, clash-run, read-ours, read-roots, got-from, got-reached}
 
 module _ (H : List ℕ → List ℕ) (composed : List ℕ → Bool) (l : List ℕ) (long : length l ≡ labelBytes) (bytes : Below 256 l) where
   -- every slip with the root label l that reached the one reached the other
@@ -83,20 +85,31 @@ module _ (H : List ℕ → List ℕ) (composed : List ℕ → Bool) (l : List �
 
   shown-bytes : (xs : List Arrival) → WasShown H (read H composed l) (fits H composed l) l xs → Shown H composed l xs
   shown-bytes xs w =
-      let c = w .texts in
-      let f = got-from H composed l xs (c .first) (c .gotFirst) in
-      let g = got-from H composed l xs (c .second) (c .gotSecond) in
+      let f = got-from H composed l (w .before) (w .first) (w .gotFirst) in
+      let o = read-ours H composed l (w .arrival) (w .second) (w .gotSecond) in
+      let t : slipTree (copy H composed l (w .before)) ≡ treeHeld (w .before) = copy-tree (w .before) in
       record {
-        answered = clash-run H composed l xs (start l) (bare l) bare-held (w .answered);
-        place = c .place;
-        first = f .slip;
-        second = g .slip;
-        reachedFirst = f .reached;
-        reachedSecond = g .reached;
-        oursFirst = f .our;
-        oursSecond = g .our;
-        collision = subst₂ (λ (n m : Node). Collision H (tells H n (c .place)) (tells H m (c .place))) (sym (f .tree)) (sym (g .tree)) (c .collision);
+        before = w .before;
+        arrival = w .arrival;
+        behind = w .behind;
+        split = w .split;
+        place = w .place;
+        answered =
+            stepped H composed l (copy H composed l (w .before)) (treeHeld (w .before)) (w .arrival) (copy-stands (w .before)) .clash-said (w .place) (w .answered)
+            ∙ ap (λ (n : Node). clashed (number n (w .place)) (number (slipTree (w .arrival .slip)) (w .place))) (sym t);
+        earlier = f .slip;
+        reached = f .reached;
+        oursEarlier = f .our;
+        ours = o .0;
+        held = ap (λ (n : Node). tells H n (w .place)) t ∙ w .held ∙ ap (λ (n : Node). tells H n (w .place)) (sym (f .tree));
+        collision = subst₂ (λ (n m : Node). Collision H (tells H n (w .place)) (tells H m (w .place))) (sym (f .tree)) (sym (o .1)) (w .collision);
       }
+
+  -- a library that was shown two texts has answered 14
+  pub shown-14 : (xs : List Arrival) → Shown H composed l xs → ever H composed clashes (start l) xs ≡ true
+  shown-14 xs w =
+      ap (ever H composed clashes (start l)) (w .split)
+      ∙ ever-there H composed clashes (w .before) (start l) (w .arrival) (w .behind) (ap (λ (a : Answer). clashes (a .number)) (w .answered))
 
   pub demand-3 : (xs ys : List Arrival) → Reaches xs ys → Reaches ys xs
       → ever H composed misfits (start l) xs ≡ false → ever H composed misfits (start l) ys ≡ false
@@ -118,6 +131,14 @@ module _ (H : List ℕ → List ℕ) (composed : List ℕ → Bool) (l : List �
       subst₂ (Le H) (sym (copy-tree xs)) (sym (copy-tree ys))
       (Trees.lost H (read H composed l) (fits H composed l) l (read-roots H composed l) xs ys (got xs ys to) (unshown ys f) (fitted ys e))
 
+  -- so the pruner makes the smaller copy of the larger: by some list, with room for it, it writes exactly its bytes and answers what they check as
+  pub lost-prunes : (xs ys : List Arrival) → Reaches xs ys
+      → ever H composed misfits (start l) ys ≡ false → ever H composed clashes (start l) ys ≡ false
+      → (out : List ℕ) → length (copy H composed l xs) ≤ length out → PrunesTo H composed (copy H composed l ys) (copy H composed l xs) out
+  lost-prunes xs ys to e f out room =
+      le-prunes H composed (copy H composed l xs) (copy H composed l ys) out (treeHeld xs) (treeHeld ys) (copy-stands xs .slip) (copy-stands ys .slip)
+      (Trees.lost H (read H composed l) (fits H composed l) l (read-roots H composed l) xs ys (got xs ys to) (unshown ys f) (fitted ys e)) room
+
 -- the same with SHA-256 and composed text, as the join's contract has them
 module _ (l : List ℕ) (long : length l ≡ labelBytes) (bytes : Below 256 l) where
   pub demand-3-sha256 : (xs ys : List Arrival) → Reaches Sha256.label composedText l long bytes xs ys → Reaches Sha256.label composedText l long bytes ys xs
@@ -129,3 +150,9 @@ module _ (l : List ℕ) (long : length l ≡ labelBytes) (bytes : Below 256 l) w
       → ever Sha256.label composedText misfits (start l) ys ≡ false → ever Sha256.label composedText clashes (start l) ys ≡ false
       → Le Sha256.label (slipTree (copy Sha256.label composedText l xs)) (slipTree (copy Sha256.label composedText l ys))
   lost-sha256 = lost Sha256.label composedText l long bytes
+
+  pub lost-prunes-sha256 : (xs ys : List Arrival) → Reaches Sha256.label composedText l long bytes xs ys
+      → ever Sha256.label composedText misfits (start l) ys ≡ false → ever Sha256.label composedText clashes (start l) ys ≡ false
+      → (out : List ℕ) → length (copy Sha256.label composedText l xs) ≤ length out
+      → PrunesTo Sha256.label composedText (copy Sha256.label composedText l ys) (copy Sha256.label composedText l xs) out
+  lost-prunes-sha256 = lost-prunes Sha256.label composedText l long bytes

@@ -1,7 +1,7 @@
 -- A library that keeps a slip and joins each arrival to it: demand 3 over bytes.
 use Prim.Native.Nat.{ℕ}
 use mathlib.Core.Bool.{Bool, true, false, cond, _||_}
-use mathlib.Core.List.{List, [], _∷_}
+use mathlib.Core.List.{List, [], _∷_, _++_}
 use mathlib.Core.Logic.{_⊎_}
 use mathlib.Core.Option.{some}
 use mathlib.Core.Path.{_≡_}
@@ -12,12 +12,13 @@ use Rattle.trees.specs.Rules.{clashing}
 use Rattle.trees.specs.Places.{Place, Fact, tells}
 use Rattle.trees.specs.Join.{Collision}
 use Rattle.trees.specs.Ends.{bare}
-use Rattle.trees.specs.Rows.{rows}
+use Rattle.trees.specs.Rows.{rows, number}
 use Rattle.tables.specs.Refusals.{accepted, noRoom, joinTooLarge}
 use Rattle.codec.specs.Writing.{slipOf}
 use Rattle.slips.specs.Check.{checkOf}
 use Rattle.slips.specs.Output.{Packed}
 use Rattle.slips.specs.SlipTree.{slipTree}
+use Rattle.join_tables.specs.Joined.{clashed}
 use Rattle.join.specs.Join.{joinOf}
 
 -- what arrives: any bytes, and the buffer lent for the join
@@ -43,14 +44,18 @@ misfits k = eqb k noRoom || eqb k joinTooLarge
 abbrev pub clashes : ℕ → Bool
 clashes k = eqb k clashing
 
+-- what is held after a join's outcome, where c was: the bytes written if it is accepted, else the same
+abbrev pub keeps : Packed → List ℕ → List ℕ
+keeps p c = cond (eqb (p .answer .number) accepted) (take (p .answer .length) (p .bytes)) c
+
 module _ (H : List ℕ → List ℕ) (composed : List ℕ → Bool) where
   -- the join's outcome, where c is held
   abbrev pub outcome : List ℕ → Arrival → Packed
   outcome c a = joinOf H composed c (a .slip) (a .buffer)
 
-  -- what is held then: the bytes written where the join is accepted, else the same
+  -- what is held then
   abbrev pub after : List ℕ → Arrival → List ℕ
-  after c a = cond (eqb (outcome c a .answer .number) accepted) (take (outcome c a .answer .length) (outcome c a .bytes)) c
+  after c a = keeps (outcome c a) c
 
   -- what is held after all arrivals
   abbrev pub kept : List ℕ → List Arrival → List ℕ
@@ -79,17 +84,23 @@ module _ (H : List ℕ → List ℕ) (composed : List ℕ → Bool) where
       pub ours : Ours slip
       pub here : tells H (slipTree slip) p ≡ some x
 
-    -- "each has been shown two different texts with one hash": it answered 14, and two of its own arrivals have them at one place
+    -- "each has been shown two different texts with one hash": behind some arrivals it answered 14 to the next; "the two entry numbers" are
+    -- those of one place in the copy held then and in that arrival; the copy's text there is an earlier arrival's, and the two texts collide
     pub record Shown (xs : List Arrival) : Type 0 where
-      pub answered : ever clashes (start l) xs ≡ true
+      pub before : List Arrival
+      pub arrival : Arrival
+      pub behind : List Arrival
+      pub split : xs ≡ before ++ (arrival ∷ behind)
       pub place : Place
-      pub first : List ℕ
-      pub second : List ℕ
-      pub reachedFirst : Reached xs first
-      pub reachedSecond : Reached xs second
-      pub oursFirst : Ours first
-      pub oursSecond : Ours second
-      pub collision : Collision H (tells H (slipTree first) place) (tells H (slipTree second) place)
+      pub answered :
+          outcome (copy before) arrival .answer
+          ≡ clashed (number (slipTree (copy before)) place) (number (slipTree (arrival .slip)) place)
+      pub earlier : List ℕ
+      pub reached : Reached before earlier
+      pub oursEarlier : Ours earlier
+      pub ours : Ours (arrival .slip)
+      pub held : tells H (slipTree (copy before)) place ≡ tells H (slipTree earlier) place
+      pub collision : Collision H (tells H (slipTree earlier) place) (tells H (slipTree (arrival .slip)) place)
 
     -- "both hold the same bytes, disclosing exactly what some slip with that root discloses at each place"
     pub record Same (xs ys : List Arrival) : Type 0 where

@@ -1,7 +1,7 @@
 -- A library over bytes does what the same library does over trees.
 use Prim.Native.Nat.{ℕ, _≤_}
 use mathlib.Core.Bool.{Bool, true, false, not, cond, _&&_, _||_, false≢true}
-use mathlib.Core.List.{List, [], _∷_}
+use mathlib.Core.List.{List, [], _∷_, _++_}
 use mathlib.Core.Logic.{inl, inr}
 use mathlib.Core.Option.{Option, none, some}
 use mathlib.Core.Path.{_≡_, refl, sym, ap, _∙_, subst, subst₂}
@@ -15,6 +15,7 @@ use Rattle.trees.specs.Tests.{and-left, and-right, and-both, or-cases}
 use Rattle.trees.specs.Lists.{same, same-refl, same-true, none-some, some-inj}
 use Rattle.trees.specs.Nodes.{Node, size, label, blocks}
 use Rattle.trees.specs.Rules.{maxNodes, maxBytes, labelBytes}
+use Rattle.trees.specs.Places.{Place}
 use Rattle.trees.specs.OrderLaws.{le-label}
 use Rattle.trees.specs.Join.{Joint, ok, clash, join, Alike}
 use Rattle.trees.specs.JoinLaws.{join-ok}
@@ -38,8 +39,45 @@ use Rattle.slips.specs.ByteTrees.{tree-slip, accepted-slip}
 use Rattle.both_slips.specs.Both.{sided}
 use Rattle.join_tables.specs.Joined.{clashed, tooLarge}
 use Rattle.join.specs.JoinTheorems.{Goes, first, second, differ, clashes, large, joins, join-goes}
-use Rattle.demands.specs.Library.{Arrival, start, Reached, misfits, outcome, after, kept, ever, Ours}
+use Rattle.demands.specs.Library.{Arrival, start, Reached, misfits, keeps, outcome, after, kept, ever, Ours}
 use Rattle.demands.specs.Library as Library
+
+-- an accepted join's bytes are held, and no others; after a refusal the same are
+keeps-written : (c w out l : List ℕ) (b : ℕ) → keeps (record { answer = taken (length w) b l; bytes = over w out }) c ≡ w
+keeps-written c w out l b = take-at w (drop (length w) out) (length w) refl
+
+keeps-refused : (c out : List ℕ) (q : Answer) → (q .number ≡ accepted → ⊥) → keeps (still q out) c ≡ c
+keeps-refused c out q h = rw (ne-eqb (q .number) accepted h)
+
+or-first : (p q : Bool) → p ≡ true → (p || q) ≡ true
+or-first true q e = refl
+or-first false q e = absurd (false≢true e)
+
+or-second : (p q : Bool) → q ≡ true → (p || q) ≡ true
+or-second true q e = refl
+or-second false q e = e
+
+module _ (H : List ℕ → List ℕ) (composed : List ℕ → Bool) (f : ℕ → Bool) where
+  -- an answer behind some arrivals is one on the way
+  pub ever-there : (xs : List Arrival) (c : List ℕ) (a : Arrival) (ys : List Arrival)
+      → f (outcome H composed (kept H composed c xs) a .answer .number) ≡ true → ever H composed f c (xs ++ (a ∷ ys)) ≡ true
+  ever-there [] c a ys e = or-first (f (outcome H composed c a .answer .number)) (ever H composed f (after H composed c a) ys) e
+  ever-there (x ∷ xs) c a ys e =
+      or-second (f (outcome H composed c x .answer .number)) (ever H composed f (after H composed c x) (xs ++ (a ∷ ys)))
+      (ever-there xs (after H composed c x) a ys e)
+
+-- a reply by its kind
+shown-is : (v : Reply) → isShown v ≡ true → (p : Place) × (v ≡ shown p)
+shown-is passed e = absurd (false≢true e)
+shown-is (took d) e = absurd (false≢true e)
+shown-is misfit e = absurd (false≢true e)
+shown-is (shown p) e = (p, refl)
+
+never-shown : (v : Reply) (p : Place) → isShown v ≡ false → v ≡ shown p → ⊥
+never-shown v p e q = false≢true (sym e ∙ ap isShown q)
+
+shown-inj : {p q : Place} → shown p ≡ shown q → p ≡ q
+shown-inj e = cc
 
 module _ (H : List ℕ → List ℕ) (composed : List ℕ → Bool) (l : List ℕ) where
   -- an arrival with the root label l
@@ -90,23 +128,24 @@ module _ (H : List ℕ → List ℕ) (composed : List ℕ → Bool) (l : List �
       record { good = ap (λ (z : Answer). z .number) c; root = ap (λ (z : Answer). z .label) c ∙ r } in
       ap (λ (t : Bool). readAs t a) (is-ours a o) ∙ ap some (slip-tree H composed (a .slip) b x)
 
-  -- what is held after an arrival whose outcome is p, where the tree held gets the reply v; and what the answer's number says
-  pub record StepsBy (c : List ℕ) (n : Node) (v : Reply) (p : Packed) : Type 0 where
-    pub stands : Stands (cond (eqb (p .answer .number) accepted) (take (p .answer .length) (p .bytes)) c) (held n v)
+  -- what is held after an arrival a whose outcome is p, where the tree held gets the reply v; and what the answer says
+  pub record StepsBy (c : List ℕ) (n : Node) (a : Arrival) (v : Reply) (p : Packed) : Type 0 where
+    pub stands : Stands (keeps p c) (held n v)
     pub misfit-said : isMisfit v ≡ true → misfits (p .answer .number) ≡ true
-    pub clash-said : isShown v ≡ true → Library.clashes (p .answer .number) ≡ true
+    pub clash-said : (q : Place) → v ≡ shown q → p .answer ≡ clashed (number n q) (number (slipTree (a .slip)) q)
 
-  abbrev Steps : List ℕ → Node → Arrival → Type 0
-  Steps c n a = StepsBy c n (reply H read fits n a) (outcome H composed c a)
+  abbrev pub Steps : List ℕ → Node → Arrival → Type 0
+  Steps c n a = StepsBy c n a (reply H read fits n a) (outcome H composed c a)
 
   module _ (c : List ℕ) (n : Node) (a : Arrival) (st : Stands c n) where
     -- a refusal keeps what is held
     refusing : (v : Reply) (q : Answer) → (q .number ≡ accepted → ⊥) → held n v ≡ n
-        → (isMisfit v ≡ true → misfits (q .number) ≡ true) → (isShown v ≡ true → Library.clashes (q .number) ≡ true)
-        → StepsBy c n v (still q (a .buffer))
+        → (isMisfit v ≡ true → misfits (q .number) ≡ true)
+        → ((p : Place) → v ≡ shown p → q ≡ clashed (number n p) (number (slipTree (a .slip)) p))
+        → StepsBy c n a v (still q (a .buffer))
     refusing v q h k m s =
         record {
-          stands = rw (ne-eqb (q .number) accepted h, k) st;
+          stands = subst₂ Stands (sym (keeps-refused c (a .buffer) q h)) (sym k) st;
           misfit-said = m;
           clash-said = s;
         }
@@ -114,8 +153,8 @@ module _ (H : List ℕ → List ℕ) (composed : List ℕ → Bool) (l : List �
     -- an arrival that is none of ours is passed over
     passing : (q : Answer) → (q .number ≡ accepted → ⊥) → read a ≡ none → outcome H composed c a ≡ still q (a .buffer) → Steps c n a
     passing q h r e =
-        subst₂ (StepsBy c n) (sym (ap (replyTo H read fits n a) r)) (sym e)
-        (refusing passed q h refl (λ f. absurd (false≢true f)) (λ f. absurd (false≢true f)))
+        subst₂ (StepsBy c n a) (sym (ap (replyTo H read fits n a) r)) (sym e)
+        (refusing passed q h refl (λ f. absurd (false≢true f)) (λ p f. absurd (never-shown passed p refl f)))
 
     -- one of ours, whose join is j
     settling : (b : Node) → SlipOf H composed (a .slip) b → label H b ≡ l → (j : Joint) → join H n b ≡ j
@@ -128,21 +167,21 @@ module _ (H : List ℕ → List ℕ) (composed : List ℕ → Bool) (l : List �
     -- the join has room, or 11
     by-room : (b d : Node) → SlipOf H composed (a .slip) b → label H n ≡ label H b → join H n b ≡ ok d
         → SlipOf H composed (slipOf (rows d)) d → (t : Bool)
-        → StepsBy c n (cond (cond (tooLarge d) false (not t)) (took d) misfit)
+        → StepsBy c n a (cond (cond (tooLarge d) false (not t)) (took d) misfit)
         (cond t (still (refused noRoom 0) (a .buffer))
         (record { answer = taken (length (slipOf (rows d))) (blocks H d) (label H d); bytes = over (slipOf (rows d)) (a .buffer) }))
     by-room b d y alike e x true =
-        rw (not-large d x) (refusing misfit (refused noRoom 0) (λ f. omega (arith, f)) refl (λ f. refl) (λ f. absurd (false≢true f)))
+        rw (not-large d x) (refusing misfit (refused noRoom 0) (λ f. omega (arith, f)) refl (λ f. refl) (λ p f. absurd (never-shown misfit p refl f)))
     by-room b d y alike e x false =
         let w : List ℕ = slipOf (rows d) in
         let like : Alike H n b = record { types = st .slip .well .root ∙ sym (y .well .root); labels = alike } in
         rw (not-large d x)
         (record {
           stands =
-              subst (λ (z : List ℕ). Stands z d) (sym (take-at w (drop (length w) (a .buffer)) (length w) refl))
+              subst (λ (z : List ℕ). Stands z d) (sym (keeps-written c w (a .buffer) (label H d) (blocks H d)))
               (record { slip = x; root = sym (le-label H n d (join-ok H n b d like e .left)) ∙ st .root });
           misfit-said = λ f. absurd (false≢true f);
-          clash-said = λ f. absurd (false≢true f);
+          clash-said = λ p f. absurd (never-shown (took d) p refl f);
         })
 
     -- the tree held is that of the copy
@@ -158,28 +197,29 @@ module _ (H : List ℕ → List ℕ) (composed : List ℕ → Bool) (l : List �
         (reads-none a (λ o. apart (ap (label H) (held-tree m x) ∙ st .root ∙ sym (o .root)
         ∙ ap (λ (z : Answer). z .label) (check-complete H composed (a .slip) b y))))
         e
-    one-step (clashes m b x y alike p j e) =
+    one-step (clashes m b x y alike p j top e) =
         let k = held-tree m x in
         let r : label H b ≡ l = sym alike ∙ ap (label H) k ∙ st .root in
         let j′ : join H n b ≡ clash p = subst (λ (z : Node). join H z b ≡ clash p) k j in
-        subst₂ (StepsBy c n) (sym (settling b y r (clash p) j′)) (sym e)
-        (refusing (shown p) (clashed (number m p) (number b p)) (λ f. omega (arith, f)) refl (λ f. absurd (false≢true f)) (λ f. refl))
-    one-step (large m b x y alike d j too e) =
+        subst₂ (StepsBy c n a) (sym (settling b y r (clash p) j′)) (sym e)
+        (refusing (shown p) (clashed (number m p) (number b p)) (λ f. omega (arith, f)) refl (λ f. absurd (false≢true f))
+        (λ q f i. clashed (number (k i) (shown-inj f i)) (number (sym (slip-tree H composed (a .slip) b y) i) (shown-inj f i))))
+    one-step (large m b x y alike quiet d j too e) =
         let k = held-tree m x in
         let r : label H b ≡ l = sym alike ∙ ap (label H) k ∙ st .root in
         let j′ : join H n b ≡ ok d = subst (λ (z : Node). join H z b ≡ ok d) k j in
         let v : settle (fits a) (ok d) ≡ misfit =
         ap (λ (t : Bool). cond (cond t false (not (ltb (length (a .buffer)) (length (slipOf (rows d)))))) (took d) misfit) too in
-        subst₂ (StepsBy c n) (sym (settling b y r (ok d) j′ ∙ v)) (sym e)
-        (refusing misfit (refused joinTooLarge 0) (λ f. omega (arith, f)) refl (λ f. refl) (λ f. absurd (false≢true f)))
-    one-step (joins m b x y alike d j w e) =
+        subst₂ (StepsBy c n a) (sym (settling b y r (ok d) j′ ∙ v)) (sym e)
+        (refusing misfit (refused joinTooLarge 0) (λ f. omega (arith, f)) refl (λ f. refl) (λ p f. absurd (never-shown misfit p refl f)))
+    one-step (joins m b x y alike quiet d j w e) =
         let k = held-tree m x in
         let r : label H b ≡ l = sym alike ∙ ap (label H) k ∙ st .root in
         let j′ : join H n b ≡ ok d = subst (λ (z : Node). join H z b ≡ ok d) k j in
-        subst₂ (StepsBy c n) (sym (settling b y r (ok d) j′)) (sym e)
+        subst₂ (StepsBy c n a) (sym (settling b y r (ok d) j′)) (sym e)
         (by-room b d y (st .root ∙ sym r) j′ w (ltb (length (a .buffer)) (length (slipOf (rows d)))))
 
-    stepped : Steps c n a
+    pub stepped : Steps c n a
     stepped = one-step (join-goes H composed c (a .slip) (a .buffer) (subst (Below 256) (sym (st .slip .is)) (below-slipOf (rows n))) (a .bytes))
 
   -- after all arrivals the bytes held are the slip of the tree held
@@ -196,36 +236,34 @@ module _ (H : List ℕ → List ℕ) (composed : List ℕ → Bool) (l : List �
       (λ d. or-first (g (outcome H composed c a .answer .number)) (ever H composed g (after H composed c a) xs) (h c n a st d))
       (λ d. or-second (g (outcome H composed c a .answer .number)) (ever H composed g (after H composed c a) xs)
       (ever-by f g h xs (after H composed c a) (step H read fits n a) (stepped c n a st .stands) d))
-    where
-      or-first : (p q : Bool) → p ≡ true → (p || q) ≡ true
-      or-first true q e = refl
-      or-first false q e = absurd (false≢true e)
-
-      or-second : (p q : Bool) → q ≡ true → (p || q) ≡ true
-      or-second true q e = refl
-      or-second false q e = e
 
   -- a library that never answered 11 or 15 never lacked room, and one that was shown a clash has answered 14
   pub misfit-run : (xs : List Arrival) (c : List ℕ) (n : Node) → Stands c n → Ends.ever H read fits isMisfit n xs ≡ true → ever H composed misfits c xs ≡ true
   misfit-run = ever-by isMisfit misfits (λ c n a st. stepped c n a st .misfit-said)
 
   pub clash-run : (xs : List Arrival) (c : List ℕ) (n : Node) → Stands c n → Ends.ever H read fits isShown n xs ≡ true → ever H composed Library.clashes c xs ≡ true
-  clash-run = ever-by isShown Library.clashes (λ c n a st. stepped c n a st .clash-said)
+  clash-run =
+      ever-by isShown Library.clashes
+      (λ c n a st e. (let w = shown-is (reply H read fits n a) e in ap (λ (z : Answer). Library.clashes (z .number)) (stepped c n a st .clash-said (w .0) (w .1))))
+
+  -- an arrival that reads as a tree has the root label l, and that tree
+  pub read-ours : (a : Arrival) (t : Node) → read a ≡ some t → Ours H composed l (a .slip) × (slipTree (a .slip) ≡ t)
+  read-ours a t e = go (ours a) refl e
+    where
+      go : (b : Bool) → ours a ≡ b → readAs b a ≡ some t → Ours H composed l (a .slip) × (slipTree (a .slip) ≡ t)
+      go false d e = absurd (none-some e)
+      go true d e = (ours-is a d, some-inj e)
 
   -- the trees that the arrivals read as are those of the arrivals with the root label l
   pub read-roots : (a : Arrival) (t : Node) → read a ≡ some t → Rooted H l t
-  read-roots a t e = go (ours a) refl e
-    where
-      go : (b : Bool) → ours a ≡ b → readAs b a ≡ some t → Rooted H l t
-      go false d e = absurd (none-some e)
-      go true d e =
-          let o = ours-is a d in
-          let x = accepted-slip H composed (a .slip) (a .bytes) (o .good) in
-          subst (Rooted H l) (some-inj e)
-          (record {
-            root = x .well .root;
-            text = ap (λ (z : Answer). z .label) (sym (check-complete H composed (a .slip) (slipTree (a .slip)) x)) ∙ o .root;
-          })
+  read-roots a t e =
+      let o = read-ours a t e in
+      let x = accepted-slip H composed (a .slip) (a .bytes) (o .0 .good) in
+      subst (Rooted H l) (o .1)
+      (record {
+        root = x .well .root;
+        text = ap (λ (z : Answer). z .label) (sym (check-complete H composed (a .slip) (slipTree (a .slip)) x)) ∙ o .0 .root;
+      })
 
   pub record From (xs : List Arrival) (t : Node) : Type 0 where
     pub slip : List ℕ
@@ -235,11 +273,8 @@ module _ (H : List ℕ → List ℕ) (composed : List ℕ → Bool) (l : List �
 
   pub got-from : (xs : List Arrival) (t : Node) → Got read xs t → From xs t
   got-from [] t g = absurd g
-  got-from (a ∷ xs) t (inl e) = go (ours a) refl e
-    where
-      go : (b : Bool) → ours a ≡ b → readAs b a ≡ some t → From (a ∷ xs) t
-      go false d e = absurd (none-some e)
-      go true d e = record { slip = a .slip; reached = inl refl; our = ours-is a d; tree = some-inj e }
+  got-from (a ∷ xs) t (inl e) =
+      let o = read-ours a t e in record { slip = a .slip; reached = inl refl; our = o .0; tree = o .1 }
   got-from (a ∷ xs) t (inr g) =
       let x = got-from xs t g in record { slip = x .slip; reached = inr (x .reached); our = x .our; tree = x .tree }
 

@@ -13,7 +13,8 @@ use Rattle.trees.specs.Nodes.{Node, size, label}
 use Rattle.trees.specs.Rules.{maxNodes, maxBytes}
 use Rattle.trees.specs.RulesLaws.{On, join-all, join-well-formed}
 use Rattle.trees.specs.Places.{Place}
-use Rattle.trees.specs.Join.{Joint, ok, clash, join, Alike}
+use Rattle.trees.specs.Join.{Joint, ok, clash, join, Alike, Clash, FirstClash}
+use Rattle.trees.specs.FirstClash.{join-unclashed, clash-first}
 use Rattle.trees.specs.JoinAlgebra.{join-idem, join-comm}
 use Rattle.trees.specs.Rows.{rows, number}
 use Rattle.tables.specs.Refusals.{accepted, rootsDiffer, joinTooLarge}
@@ -48,6 +49,10 @@ module _ (H : List ℕ → List ℕ) (composed : List ℕ → Bool) where
       ∙ ap (λ (t : Bool). cond (not t) (still (refused rootsDiffer 0) out) (joinedOf H a b out (join H a b)))
       (ap (same (label H a)) (sym l) ∙ same-refl (label H a))
 
+  -- the trees of two such slips are alike
+  slips-alike : (s u : List ℕ) (a b : Node) → SlipOf H composed s a → SlipOf H composed u b → label H a ≡ label H b → Alike H a b
+  slips-alike s u a b x y l = record { types = x .well .root ∙ sym (y .well .root); labels = l }
+
   -- a join that is not too large has a slip
   pub join-slip : (s u : List ℕ) (a b c : Node) → SlipOf H composed s a → SlipOf H composed u b → label H a ≡ label H b → join H a b ≡ ok c
       → tooLarge c ≡ false → SlipOf H composed (slipOf (rows c)) c
@@ -59,8 +64,8 @@ module _ (H : List ℕ → List ℕ) (composed : List ℕ → Bool) where
       (ltb-false maxNodes (size c) (or-left (ltb maxNodes (size c)) (ltb maxBytes (length (slipOf (rows c)))) fits))
       (ltb-false maxBytes (length (slipOf (rows c))) (or-right (ltb maxNodes (size c)) (ltb maxBytes (length (slipOf (rows c)))) fits))
 
-  -- how the join of two slips goes: refused for one of them, by 13, by 14 exactly at the clash of their trees, by 15 exactly where their
-  -- join is too large, else 11 or the slip of their join
+  -- how the join of two slips goes: refused for one of them, by 13, by 14 exactly at the first clash of their trees, and where there is none
+  -- by 15 exactly where their join is too large, else 11 or the slip of their join
   pub data Goes (s u out : List ℕ) : Type 0 where
     first : (checkOf H composed s .number ≡ accepted → ⊥) → joinOf H composed s u out ≡ still (sided 1 (checkOf H composed s)) out → Goes s u out
     second :
@@ -83,6 +88,7 @@ module _ (H : List ℕ → List ℕ) (composed : List ℕ → Bool) where
         → label H a ≡ label H b
         → (p : Place)
         → join H a b ≡ clash p
+        → FirstClash H a b p
         → joinOf H composed s u out ≡ still (clashed (number a p) (number b p)) out
         → Goes s u out
     large :
@@ -90,6 +96,7 @@ module _ (H : List ℕ → List ℕ) (composed : List ℕ → Bool) where
         → SlipOf H composed s a
         → SlipOf H composed u b
         → label H a ≡ label H b
+        → ((q : Place) → Clash H a b q → ⊥)
         → (c : Node)
         → join H a b ≡ ok c
         → tooLarge c ≡ true
@@ -100,6 +107,7 @@ module _ (H : List ℕ → List ℕ) (composed : List ℕ → Bool) where
         → SlipOf H composed s a
         → SlipOf H composed u b
         → label H a ≡ label H b
+        → ((q : Place) → Clash H a b q → ⊥)
         → (c : Node)
         → join H a b ≡ ok c
         → SlipOf H composed (slipOf (rows c)) c
@@ -109,14 +117,14 @@ module _ (H : List ℕ → List ℕ) (composed : List ℕ → Bool) where
   module _ (s u out : List ℕ) where
     by-size : (a b c : Node) → SlipOf H composed s a → SlipOf H composed u b → label H a ≡ label H b → join H a b ≡ ok c
         → (t : Bool) → tooLarge c ≡ t → joinOf H composed s u out ≡ cond t (still (refused joinTooLarge 0) out) (sentTree H c out) → Goes s u out
-    by-size a b c x y l e true t f = large a b x y l c e t f
-    by-size a b c x y l e false t f = joins a b x y l c e (join-slip s u a b c x y l e t) f
+    by-size a b c x y l e true t f = large a b x y l (join-unclashed H a b c e) c e t f
+    by-size a b c x y l e false t f = joins a b x y l (join-unclashed H a b c e) c e (join-slip s u a b c x y l e t) f
 
     by-join : (a b : Node) → SlipOf H composed s a → SlipOf H composed u b → label H a ≡ label H b
         → (j : Joint) → join H a b ≡ j → joinOf H composed s u out ≡ joinedOf H a b out j → Goes s u out
     unfolding joinedOf
     by-join a b x y l (ok c) e f = by-size a b c x y l e (tooLarge c) refl f
-    by-join a b x y l (clash p) e f = clashes a b x y l p e f
+    by-join a b x y l (clash p) e f = clashes a b x y l p e (clash-first H a b p (slips-alike s u a b x y l) e) f
 
     by-roots : (a b : Node) → SlipOf H composed s a → SlipOf H composed u b → (t : Bool) → same (label H a) (label H b) ≡ t → Goes s u out
     by-roots a b x y true t =
@@ -164,13 +172,10 @@ module _ (H : List ℕ → List ℕ) (composed : List ℕ → Bool) where
       by-joint : label H a ≡ label H b → (j : Joint) → join H a b ≡ j → Either out (joinOf H composed s u out) (joinOf H composed u s out)
       by-joint l (ok c) e =
           one (alike-join s u out a b x y l ∙ ap (joinedOf H a b out) e
-          ∙ sym (alike-join u s out b a y x (sym l) ∙ ap (joinedOf H b a out) (sym (join-comm H a b (alike l)) ∙ e)))
-        where
-          alike : label H a ≡ label H b → Alike H a b
-          alike l = record { types = x .well .root ∙ sym (y .well .root); labels = l }
+          ∙ sym (alike-join u s out b a y x (sym l) ∙ ap (joinedOf H b a out) (sym (join-comm H a b (slips-alike s u a b x y l)) ∙ e)))
       by-joint l (clash p) e =
           both-clash (number a p) (number b p) (alike-join s u out a b x y l ∙ ap (joinedOf H a b out) e)
-          (alike-join u s out b a y x (sym l) ∙ ap (joinedOf H b a out) (sym (join-comm H a b (record { types = x .well .root ∙ sym (y .well .root); labels = l })) ∙ e))
+          (alike-join u s out b a y x (sym l) ∙ ap (joinedOf H b a out) (sym (join-comm H a b (slips-alike s u a b x y l)) ∙ e))
 
       by-label : (t : Bool) → same (label H a) (label H b) ≡ t → Either out (joinOf H composed s u out) (joinOf H composed u s out)
       by-label true t = by-joint (same-true (label H a) (label H b) t) (join H a b) refl

@@ -1,7 +1,7 @@
 -- Demand 3 over trees, and the last clause of document 01 on lost slips.
 use mathlib.Core.Path.{_≡_, refl, sym, _∙_}
 use mathlib.Core.Logic.{_⊎_, inl, inr}
-use mathlib.Core.Bool.{Bool, true, false, true≢false}
+use mathlib.Core.Bool.{Bool, true, false, true≢false, false≢true}
 use mathlib.Core.List.{List, [], _∷_}
 use mathlib.Core.Option.{Option, some}
 use Prim.Native.Nat.{ℕ}
@@ -10,13 +10,14 @@ use lib.ListN.{length}
 use Rattle.trees.specs.Lists.{none-some}
 use Rattle.trees.specs.Nodes.{Node, label}
 use Rattle.trees.specs.Rules.{labelBytes, WellFormed}
-use Rattle.trees.specs.Places.{Place, Fact, tells, Le}
+use Rattle.trees.specs.Places.{Place, Fact, opened, tells, Le}
 use Rattle.trees.specs.OrderLaws.{le-label, le-antisym, le-tells}
-use Rattle.trees.specs.Join.{Alike}
+use Rattle.trees.specs.Join.{Alike, Differ}
 use Rattle.trees.specs.JoinLaws.{join-ok}
 use Rattle.trees.specs.RulesLaws.{dangling-rules, join-well-formed}
-use Rattle.trees.specs.Ends.{bare, Rooted, Got, copy, answered14, didNotFit, Exactly, WasShown, Agree}
-use Rattle.trees.specs.EndsLaws.{run-keeps, run-up, run-upper, run-least, run-unclashed, run-exact, run-shown}
+use Rattle.trees.specs.Ends.{Reply, passed, took, misfit, shown, isShown, bare, Rooted, reply, Got, Told, copy, answered14, didNotFit, Exactly, WasShown, Agree}
+use Rattle.trees.specs.Replies.{Means, reply-means}
+use Rattle.trees.specs.EndsLaws.{Replied, ever-at, run-keeps, run-up, rooted-run, run-upper, run-least, run-unclashed, run-exact}
 
 -- "with nothing disclosed"
 pub bare-tells : (H : List ℕ → List ℕ) (l : List ℕ) (p : Place) (x : Fact) → tells H (bare l) p ≡ some x → ⊥
@@ -49,11 +50,41 @@ module _ (H : List ℕ → List ℕ) {A : Type 0} (read : A → Option Node) (fi
 
   -- an end that answered 14 "has been shown two different texts with one hash"
   pub copy-shown : (xs : List A) → answered14 H read fits l xs ≡ true → WasShown H read fits l xs
-  copy-shown xs e =
-      record {
-        answered = e;
-        texts = run-shown H read fits l roots (Got read xs) xs (bare l) rooted-bare (λ p x q. absurd (bare-tells H l p x q)) (λ t g. g) e;
-      }
+  copy-shown xs e = go (ever-at H read fits isShown (bare l) xs e)
+    where
+      told : (ys : List A) (p : Place) (x : Fact) → tells H (copy H read fits l ys) p ≡ some x → Told H (Got read ys) p x
+      told ys = run-exact H read fits l roots (Got read ys) ys (bare l) rooted-bare (λ p x q. absurd (bare-tells H l p x q)) (λ t g. g)
+
+      by-reply : (w : Replied H read fits isShown (bare l) xs) (v : Reply) → reply H read fits (copy H read fits l (w .before)) (w .arrival) ≡ v
+          → isShown v ≡ true → Means H (copy H read fits l (w .before)) (read (w .arrival)) v → WasShown H read fits l xs
+      by-reply w passed d s m = absurd (false≢true s)
+      by-reply w (took c) d s m = absurd (false≢true s)
+      by-reply w misfit d s m = absurd (false≢true s)
+      by-reply w (shown p) d s m =
+          let c : Differ (tells H (copy H read fits l (w .before)) p) (tells H (m .0) p) = m .2 .texts in
+          let k : Told H (Got read (w .before)) p (opened (c .one)) = told (w .before) p (opened (c .one)) (c .here) in
+          record {
+            before = w .before;
+            arrival = w .arrival;
+            behind = w .behind;
+            split = w .split;
+            place = p;
+            answered = d;
+            first = k .0;
+            second = m .0;
+            gotFirst = k .1;
+            gotSecond = m .1;
+            held = c .here ∙ sym (k .2);
+            collision = record {
+              texts = record { one = c .one; two = c .two; here = k .2; there = c .there; differ = c .differ };
+              hash = m .2 .hash;
+            };
+          }
+
+      go : Replied H read fits isShown (bare l) xs → WasShown H read fits l xs
+      go w =
+          by-reply w (reply H read fits (copy H read fits l (w .before)) (w .arrival)) refl (w .passes)
+          (reply-means H read fits l roots (copy H read fits l (w .before)) (w .arrival) (rooted-run H read fits l roots (w .before) (bare l) rooted-bare))
 
   -- "Where slips are lost and an end has answered none of 11, 14 and 15, its copy is a pruning of the copy of an end that got all of them and
   -- answered none of these": here whatever the first end answered

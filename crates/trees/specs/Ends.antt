@@ -2,7 +2,7 @@
 use mathlib.Core.Path.{_≡_}
 use mathlib.Core.Logic.{_⊎_}
 use mathlib.Core.Bool.{Bool, true, false, cond, _||_}
-use mathlib.Core.List.{List, [], _∷_}
+use mathlib.Core.List.{List, [], _∷_, _++_}
 use mathlib.Core.Option.{Option, none, some}
 use Prim.Native.Nat.{ℕ}
 use Rattle.trees.specs.Nodes.{Node, leaf, typeOf, label}
@@ -87,15 +87,6 @@ Got read (a ∷ xs) t = (read a ≡ some t) ⊎ Got read xs t
 abbrev pub Told : (List ℕ → List ℕ) → (Node → Type 0) → Place → Fact → Type 0
 Told H G p x = (t : Node) × G t × (tells H t p ≡ some x)
 
--- two trees of G disclose "two different texts with one hash" at one place
-pub record Collides (H : List ℕ → List ℕ) (G : Node → Type 0) : Type 0 where
-  pub place : Place
-  pub first : Node
-  pub second : Node
-  pub gotFirst : G first
-  pub gotSecond : G second
-  pub collision : Collision H (tells H first place) (tells H second place)
-
 -- c discloses "exactly what some slip with that root discloses at each place", of the trees of G
 pub record Exactly (H : List ℕ → List ℕ) (G : Node → Type 0) (c : Node) : Type 0 where
   pub known : (p : Place) (x : Fact) → tells H c p ≡ some x → Told H G p x
@@ -114,10 +105,21 @@ module _ (H : List ℕ → List ℕ) {A : Type 0} (read : A → Option Node) (fi
   abbrev pub didNotFit : List A → Bool
   didNotFit xs = ever H read fits isMisfit (bare l) xs
 
-  -- "each has been shown two different texts with one hash": it answered 14, and its own arrivals have both texts at one place
+  -- "each has been shown two different texts with one hash": behind some arrivals it answered 14 to the next, at a place where that one's
+  -- tree and one that came earlier have them; the earlier one's text is what the copy then held there
   pub record WasShown (xs : List A) : Type 0 where
-    pub answered : answered14 xs ≡ true
-    pub texts : Collides H (Got read xs)
+    pub before : List A
+    pub arrival : A
+    pub behind : List A
+    pub split : xs ≡ before ++ (arrival ∷ behind)
+    pub place : Place
+    pub answered : reply H read fits (copy before) arrival ≡ shown place
+    pub first : Node
+    pub second : Node
+    pub gotFirst : Got read before first
+    pub gotSecond : read arrival ≡ some second
+    pub held : tells H (copy before) place ≡ tells H first place
+    pub collision : Collision H (tells H first place) (tells H second place)
 
   -- "both hold the same": neither answered 14, and the one tree held discloses exactly what the arrivals do
   pub record Agree (xs ys : List A) : Type 0 where

@@ -2,7 +2,7 @@
 use mathlib.Core.Path.{_≡_, refl, sym, ap, _∙_}
 use mathlib.Core.Logic.{_⊎_, inl, inr}
 use mathlib.Core.Bool.{Bool, true, false, cond, false≢true}
-use mathlib.Core.List.{List, [], _∷_, List·Memᴰ, List·Memᴰ·head, List·Memᴰ·tail}
+use mathlib.Core.List.{List, [], _∷_, _++_, List·Memᴰ, List·Memᴰ·head, List·Memᴰ·tail}
 use mathlib.Core.Option.{Option, none, some}
 use Prim.Native.Nat.{ℕ}
 use Rattle.trees.specs.Tests.{or-left, or-right, or-cases}
@@ -10,8 +10,8 @@ use Rattle.trees.specs.Nodes.{Node}
 use Rattle.trees.specs.Places.{Place, Fact, tells, Le}
 use Rattle.trees.specs.OrderLaws.{le-refl, le-trans, le-type, le-label}
 use Rattle.trees.specs.Join.{Joint, ok, clash, join}
-use Rattle.trees.specs.Ends.{Reply, took, misfit, held, settle, replyTo, isMisfit, isShown, Rooted, reply, step, run, ever, Got, Told, Collides}
-use Rattle.trees.specs.Replies.{Means, held-up, held-upper, held-least, held-unclashed, held-exact, held-collides, reply-means}
+use Rattle.trees.specs.Ends.{Reply, took, misfit, held, settle, replyTo, isMisfit, isShown, Rooted, reply, step, run, ever, Got, Told}
+use Rattle.trees.specs.Replies.{Means, held-up, held-upper, held-least, held-unclashed, held-exact, reply-means}
 
 -- an arrival of the list that reads as t: so ends with the same set of arrivals got the same trees
 pub got-member : {A : Type 0} (read : A → Option Node) (t : Node) (a : A) → read a ≡ some t → (xs : List A) → List·Memᴰ a xs → Got read xs t
@@ -23,6 +23,33 @@ pub member-got : {A : Type 0} (read : A → Option Node) (t : Node) (xs : List A
 member-got read t [] g = absurd g
 member-got read t (x ∷ xs) (inl e) = (x, List·Memᴰ·head refl, e)
 member-got read t (x ∷ xs) (inr g) = let m = member-got read t xs g in (m .0, List·Memᴰ·tail (m .1), m .2)
+
+module _ (H : List ℕ → List ℕ) {A : Type 0} (read : A → Option Node) (fits : A → Node → Bool) (f : Reply → Bool) where
+  -- an arrival whose reply passes the test, and those before and behind it
+  pub record Replied (c : Node) (xs : List A) : Type 0 where
+    pub before : List A
+    pub arrival : A
+    pub behind : List A
+    pub split : xs ≡ before ++ (arrival ∷ behind)
+    pub passes : f (reply H read fits (run H read fits c before) arrival) ≡ true
+
+  -- where one of the replies passes the test there is one
+  pub ever-at : (c : Node) (xs : List A) → ever H read fits f c xs ≡ true → Replied c xs
+  ever-at c [] e = absurd (false≢true e)
+  ever-at c (a ∷ xs) e =
+      or-cases (f (reply H read fits c a)) (ever H read fits f (step H read fits c a) xs) e
+      (λ h. record { before = []; arrival = a; behind = xs; split = refl; passes = h })
+      (λ h. later (ever-at (step H read fits c a) xs h))
+    where
+      later : Replied (step H read fits c a) xs → Replied c (a ∷ xs)
+      later w =
+          record {
+            before = a ∷ w .before;
+            arrival = w .arrival;
+            behind = w .behind;
+            split = ap (λ (l : List A). a ∷ l) (w .split);
+            passes = w .passes;
+          }
 
 module _ (H : List ℕ → List ℕ) {A : Type 0} (read : A → Option Node) (fits : A → Node → Bool) (P : Node → Type 0)
     (kept : (c : Node) (a : A) (t d : Node) → P c → read a ≡ some t → join H c t ≡ ok d → fits a d ≡ true → P d) where
@@ -68,6 +95,11 @@ module _ (H : List ℕ → List ℕ) {A : Type 0} (read : A → Option Node) (fi
   run-up (a ∷ xs) c r =
       le-trans H c (next c a) (run H read fits (next c a) xs) (held-up H c (read a) (said c a) (meant c a r)) (run-up xs (next c a) (rooted-next c a r))
 
+  -- and keeps its root
+  pub rooted-run : (xs : List A) (c : Node) → Rooted H l c → Rooted H l (run H read fits c xs)
+  rooted-run [] c r = r
+  rooted-run (a ∷ xs) c r = rooted-run xs (next c a) (rooted-next c a r)
+
   -- with no clash and no misfit every arrival is a pruning of the copy held
   pub run-upper : (xs : List A) (c : Node) → Rooted H l c → ever H read fits isShown c xs ≡ false → ever H read fits isMisfit c xs ≡ false
       → (t : Node) → Got read xs t → Le H t (run H read fits c xs)
@@ -110,12 +142,3 @@ module _ (H : List ℕ → List ℕ) {A : Type 0} (read : A → Option Node) (fi
       → ((t : Node) → Got read xs t → G t) → (p : Place) (x : Fact) → tells H (run H read fits c xs) p ≡ some x → Told H G p x
   run-exact G [] c r h k = h
   run-exact G (a ∷ xs) c r h k = run-exact G xs (next c a) (rooted-next c a r) (told-next G c a r h (λ t q. k t (inl q))) (λ t g. k t (inr g))
-
-  -- and an end that answered 14 has two arrivals that collide
-  pub run-shown : (G : Node → Type 0) (xs : List A) (c : Node) → Rooted H l c → ((p : Place) (x : Fact) → tells H c p ≡ some x → Told H G p x)
-      → ((t : Node) → Got read xs t → G t) → ever H read fits isShown c xs ≡ true → Collides H G
-  run-shown G [] c r h k e = absurd (false≢true e)
-  run-shown G (a ∷ xs) c r h k e =
-      or-cases (isShown (said c a)) (ever H read fits isShown (next c a) xs) e
-      (λ f. held-collides H G c (read a) (said c a) (meant c a r) h (λ t q. k t (inl q)) f)
-      (λ f. run-shown G xs (next c a) (rooted-next c a r) (told-next G c a r h (λ t q. k t (inl q))) (λ t g. k t (inr g)) f)

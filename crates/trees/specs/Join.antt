@@ -8,7 +8,7 @@ use Prim.Native.Nat.{ℕ, suc, _<_}
 use Rattle.trees.specs.Lists.{same}
 use Rattle.trees.specs.Nodes.{Node, Run, inner, leaf, nil, cons, typeOf, prelabel, label, heads}
 use Rattle.trees.specs.Rules.{clashing}
-use Rattle.trees.specs.Places.{Place, Fact, opened, tells, tellsIn, Le, LeIn, Shared, SharedIn}
+use Rattle.trees.specs.Places.{Place, nodeAt, Fact, opened, tells, tellsIn, Le, LeIn, Shared, SharedIn}
 
 -- the join of two nodes: a tree, or the place of the first clash
 pub data Joint : Type 0 where
@@ -93,6 +93,20 @@ Before [] [] = ⊥
 Before [] (j ∷ q) = Unit {0}
 Before (i ∷ p) [] = ⊥
 Before (i ∷ p) (j ∷ q) = (i < j) ⊎ ((i ≡ j) × Before p q)
+
+-- p is q, or comes before it
+abbrev pub NotAfter : Place → Place → Type 0
+NotAfter p q = (p ≡ q) ⊎ Before p q
+
+-- "first clash in this order": a shared place, internal in both trees, where the prelabels differ, and no clash comes before it
+pub record FirstClash (H : List ℕ → List ℕ) (a b : Node) (p : Place) : Type 0 where
+  pub shared : Shared H a b p
+  pub one : Run
+  pub two : Run
+  pub inFirst : nodeAt a p ≡ some (inner one)
+  pub inSecond : nodeAt b p ≡ some (inner two)
+  pub differ : prelabel (heads H one) ≢ prelabel (heads H two)
+  pub first : (q : Place) → Clash H a b q → NotAfter p q
 
 -- the number of a join's answer in document 01: 0 accepted, 14 clash
 abbrev pub refusal : Joint → ℕ

@@ -1,17 +1,17 @@
 -- What each reply of an end means for the copy that it then holds.
 use mathlib.Core.Path.{_≡_, refl, sym, _∙_, subst}
 use mathlib.Core.Logic.{_⊎_, inl, inr}
-use mathlib.Core.Bool.{Bool, true, false, cond, true≢false, false≢true}
+use mathlib.Core.Bool.{Bool, true, false, cond, true≢false}
 use mathlib.Core.List.{List}
 use mathlib.Core.Option.{Option, none, some}
 use Prim.Native.Nat.{ℕ}
 use Rattle.trees.specs.Lists.{none-some, some-inj}
 use Rattle.trees.specs.Nodes.{Node}
-use Rattle.trees.specs.Places.{Place, Fact, opened, tells, Le}
+use Rattle.trees.specs.Places.{Place, Fact, tells, Le}
 use Rattle.trees.specs.OrderLaws.{le-refl}
-use Rattle.trees.specs.Join.{Joint, ok, clash, join, Joined, Differ, Collision}
+use Rattle.trees.specs.Join.{Joint, ok, clash, join, Joined, Collision}
 use Rattle.trees.specs.JoinLaws.{Good, join-good, no-collision}
-use Rattle.trees.specs.Ends.{Reply, passed, took, misfit, shown, isMisfit, isShown, held, settle, Rooted, replyTo, reply, Told, Collides}
+use Rattle.trees.specs.Ends.{Reply, passed, took, misfit, shown, isMisfit, isShown, held, settle, Rooted, replyTo, reply, Told}
 
 module _ (H : List ℕ → List ℕ) where
   -- what each reply says of the copy c and of the tree o of the arrival
@@ -71,27 +71,6 @@ module _ (H : List ℕ → List ℕ) where
       go (inr f) = inr (m .0, m .1, f)
   held-exact c o misfit m p x e = inl e
   held-exact c o (shown q) m p x e = inl e
-
-  -- a clash of the copy with an arrival is a collision in G, where trees of G told all of the copy and the arrival is one of them
-  pub held-collides : (G : Node → Type 0) (c : Node) (o : Option Node) (v : Reply) → Means c o v
-      → ((p : Place) (x : Fact) → tells H c p ≡ some x → Told H G p x) → ((t : Node) → o ≡ some t → G t) → isShown v ≡ true → Collides H G
-  held-collides G c o passed m h k e = absurd (false≢true e)
-  held-collides G c o (took d) m h k e = absurd (false≢true e)
-  held-collides G c o misfit m h k e = absurd (false≢true e)
-  held-collides G c o (shown p) m h k e =
-      let d : Differ (tells H c p) (tells H (m .0) p) = m .2 .texts in
-      let w : Told H G p (opened (d .one)) = h p (opened (d .one)) (d .here) in
-      record {
-        place = p;
-        first = w .0;
-        second = m .0;
-        gotFirst = w .1;
-        gotSecond = k (m .0) (m .1);
-        collision = record {
-          texts = record { one = d .one; two = d .two; here = w .2; there = d .there; differ = d .differ };
-          hash = m .2 .hash;
-        };
-      }
 
 module _ (H : List ℕ → List ℕ) {A : Type 0} (read : A → Option Node) (fits : A → Node → Bool) (l : List ℕ)
     (roots : (a : A) (t : Node) → read a ≡ some t → Rooted H l t) where
