@@ -7,5 +7,6 @@ pub mod Sixteen
 pub mod Library
 pub mod LibraryLaws
 pub mod Demand3
+pub mod Instances
 pub mod OneAnswer
 pub mod Marked
