@@ -1,7 +1,9 @@
 -- What two slips answer before they are joined: "first slip (side 1), second slip (side 2), 13".
 use Prim.Native.Nat.{ℕ}
-use mathlib.Core.Bool.{not, cond}
+use mathlib.Core.Bool.{Bool, not}
+use mathlib.Core.List.{List, [], _∷_}
 use lib.Dec.{eqb}
+use Rattle.refusals.specs.Chain.{chain}
 use Rattle.trees.specs.Lists.{same}
 use Rattle.tables.specs.Refusals.{accepted, rootsDiffer}
 use Rattle.slips.specs.declared.answer.Answer.{Answer}
@@ -20,8 +22,14 @@ sided k a =
       label = a .label;
     }
 
+-- "first slip (side 1), second slip (side 2), 13", by the answers to the two
+abbrev pub bothTests : Answer → Answer → List (Bool × Answer)
+bothTests a b =
+    (not (eqb (a .number) accepted), sided 1 a)
+    ∷ (not (eqb (b .number) accepted), sided 2 b)
+    ∷ (not (same (a .label) (b .label)), refused rootsDiffer 0)
+    ∷ []
+
 -- the refusal, or the first slip's answer
 unfoldable pub bothOf : Answer → Answer → Answer
-bothOf a b =
-    cond (not (eqb (a .number) accepted)) (sided 1 a)
-    (cond (not (eqb (b .number) accepted)) (sided 2 b) (cond (not (same (a .label) (b .label))) (refused rootsDiffer 0) a))
+bothOf a b = chain (bothTests a b) a

@@ -1,4 +1,6 @@
 -- The three demands of the request, over the definitions that the public calls' contracts cite.
+pub mod InOrder
+pub mod InOrderLaws
 pub mod Refusals
 pub mod Demand1
 pub mod TitleRefusals

@@ -1,42 +1,181 @@
--- Demand 1: "Each refusal has its number and place, and a refused call writes to no buffer."
-use Prim.Native.Nat.{ℕ, _+_, _<_}
-use mathlib.Core.Bool.{Bool, true, _&&_, _||_}
-use mathlib.Core.List.{List}
-use mathlib.Core.Logic.{_⊎_}
+-- Demand 1: "Each refusal has its number and place, and a refused call writes to no buffer." For each call on slips: the refusals that it
+-- may answer, in document 01's order, each with its condition, its place, its second number and its side.
+use Prim.Native.Nat.{ℕ, _+_, _*_, _≤_, _<_}
+use mathlib.Core.Bool.{Bool, true, false}
+use mathlib.Core.List.{List, [], _∷_, _++_, map}
 use mathlib.Core.Path.{_≡_}
-use lib.Dec.{ltb, eqb}
-use Rattle.trees.specs.Rules.{clashing}
-use Rattle.tables.specs.Refusals.{accepted, tooLong, otherEdition, noNodes, notOneTree, badPadding, noRoom, rootsDiffer, joinTooLarge}
+use lib.ListN.{length, getD}
+use Rattle.trees.specs.Lists.{all}
+use Rattle.trees.specs.Nodes.{Node, inner, typeOf, height, heads, label}
+use Rattle.trees.specs.Rules.{maxHeight, maxBytes, childrenMissing, tooHigh, saltBroken, notComposed, clashing, salted, textFits}
+use Rattle.trees.specs.Places.{Place}
+use Rattle.trees.specs.Join.{ok, clash, join}
+use Rattle.trees.specs.Rows.{Entry, node, tip, rows, number, kids, runOf, grow, grown}
+use Rattle.tables.specs.Limits.{edition}
+use Rattle.tables.specs.Refusals.{accepted, tooLong, cutShort, otherEdition, noNodes, notOneTree, badPadding, noRoom, badList, rootsDiffer, joinTooLarge, badTable}
+use Rattle.tables.specs.Tables.{Table, rowFits, columnsFit, sum}
+use Rattle.codec.specs.Writing.{slipOf}
 use Rattle.engine.specs.Engine.{noLabel}
+use Rattle.prune_rows.specs.Marks.{children}
+use Rattle.prune_rows.specs.Contracts.{pruned}
 use Rattle.slips.specs.declared.answer.Answer.{Answer}
+use Rattle.slips.specs.Check.{headerBits, editionOf, countOf, readingOf, paddingFits}
 use Rattle.slips.specs.Output.{Packed}
+use Rattle.slips.specs.SlipTree.{slipTree}
+use Rattle.pack.specs.Pack.{rowsOf}
+use Rattle.unpack.specs.Unpack.{Unpacked, lacksRoom, tableOf}
+use Rattle.join_tables.specs.Joined.{tooLarge}
+use Rattle.demands.specs.InOrder.{Case, at, plain, on, among, InOrder}
 
--- a refusal's number is one of the table's, up to the last that a call may answer
-abbrev pub upTo : ℕ → ℕ → Bool
-upTo last k = ltb 0 k && ltb k (last + 1)
+-- "A refusal returns its number and place, with length, blocks and label all zero"
+abbrev pub says : Case → ℕ → ℕ → Answer
+says c i j = record { number = c .number; place = i; second = j; side = c .side; length = 0; blocks = 0; label = noLabel }
 
--- "otherwise 0": those whose place is always 0
-abbrev pub placeless : ℕ → Bool
-placeless k =
-    eqb k tooLong || eqb k otherEdition || eqb k noNodes || eqb k notOneTree || eqb k badPadding || eqb k noRoom || eqb k rootsDiffer || eqb k joinTooLarge
-
--- A refusal as the table has it: "its number and place, with length, blocks and label all zero", and "elsewhere the second number is 0". A
--- place that may differ from 0 is one of so many by the number: entries for 2 and 5 to 8, rows for 16, the list's numbers for 12. The two
--- entry numbers of 14 are those of the first clash: crate join, `Goes`.
-pub record Stated (last : ℕ) (places : ℕ → ℕ) (a : Answer) : Type 0 where
-  pub number : upTo last (a .number) ≡ true
-  pub place : placeless (a .number) ≡ true → a .place ≡ 0
-  pub inside : (a .number ≡ clashing → ⊥) → (a .place ≡ 0) ⊎ (a .place < places (a .number))
-  pub second : (a .number ≡ clashing → ⊥) → a .second ≡ 0
-  pub length : a .length ≡ 0
-  pub blocks : a .blocks ≡ 0
-  pub label : a .label ≡ noLabel
+-- An answer of a call with these refusals, all of them among these numbers: the first that is given, or acceptance where none is.
+pub record Stated (numbers : List ℕ) (cases : List Case) (a : Answer) : Type 0 where
+  pub order : InOrder says cases (a .number ≡ accepted) a
+  pub listed : all (λ (c : Case). among numbers (c .number)) cases ≡ true
 
 -- the answer refuses
 abbrev pub Refuses : Answer → Type 0
 Refuses a = a .number ≡ accepted → ⊥
 
--- the refusal of a call with one output, which stays as it was
-pub record Leaves (last : ℕ) (places : ℕ → ℕ) (p : Packed) (out : List ℕ) : Type 0 where
-  pub stated : Stated last places (p .answer)
-  pub kept : p .bytes ≡ out
+-- the same of a call with one output, which stays as it was where the call refuses
+pub record Leaves (numbers : List ℕ) (cases : List Case) (out : List ℕ) (p : Packed) : Type 0 where
+  pub stated : Stated numbers cases (p .answer)
+  pub kept : Refuses (p .answer) → p .bytes ≡ out
+
+-- and of the unpacker
+pub record Hands (numbers : List ℕ) (cases : List Case) (b : Table) (u : Unpacked) : Type 0 where
+  pub stated : Stated numbers cases (u .answer)
+  pub kept : Refuses (u .answer) → u .buffers ≡ b
+
+-- "one tree with a root of type 0"
+abbrev pub OneTree : List Node → Type 0
+OneTree ns = (n : Node) × (ns ≡ n ∷ []) × (typeOf n ≡ 0)
+
+-- a number of the pruning list, where none below low may follow: "entry numbers of internal nodes, strictly rising"
+abbrev pub Names : List ℕ → ℕ → ℕ → Type 0
+Names counts low x = (low ≤ x) × (0 < getD counts x 0)
+
+-- "each row (16)", from row i on
+abbrev pub rowCases : ℕ → List ℕ → List ℕ → List ℕ → List Case
+rowCases i [] cs ls = []
+rowCases i (t ∷ ts) [] ls = []
+rowCases i (t ∷ ts) (c ∷ cs) [] = []
+rowCases i (t ∷ ts) (c ∷ cs) (l ∷ ls) = at badTable i (rowFits t c l ≡ false) ∷ rowCases (i + 1) ts cs ls
+
+-- "pruning list: not rising, out of range, or not an internal node", from index i on; a row that is not there has no children
+abbrev pub listCases : List ℕ → ℕ → ℕ → List ℕ → List Case
+listCases counts i low [] = []
+listCases counts i low (x ∷ xs) = at badList i (Names counts low x → ⊥) ∷ listCases counts (i + 1) (x + 1) xs
+
+-- "1, 2 for the header, 3, 4"
+abbrev pub headerCases : List ℕ → List Case
+headerCases s =
+    plain tooLong (maxBytes < length s)
+    ∷ plain cutShort (8 * length s < headerBits)
+    ∷ plain otherEdition (editionOf s ≡ edition → ⊥)
+    ∷ plain noNodes (countOf s ≡ 0)
+    ∷ []
+
+-- "then 9", of the entries es
+abbrev pub treeCase : List Entry → Case
+treeCase es = plain notOneTree (OneTree (grown es []) → ⊥)
+
+-- behind the entries: 2 at the first that is not there, "then 9, 10"
+abbrev pub endCases : List ℕ → List Case
+endCases s =
+    at cutShort (length (readingOf s .rows)) (length (readingOf s .rows) < countOf s)
+    ∷ treeCase (readingOf s .rows)
+    ∷ plain badPadding (paddingFits (readingOf s .rest) ≡ false)
+    ∷ []
+
+module _ (H : List ℕ → List ℕ) where
+  -- "13, 14 (first clash in this order ..), 15, 11", of the trees a and b
+  abbrev pub treesCases : Node → Node → ℕ → List Case
+  treesCases a b room =
+      plain rootsDiffer (label H a ≡ label H b → ⊥)
+      ∷ record {
+        number = clashing;
+        side = 0;
+        given = λ i j. (p : Place) × (join H a b ≡ clash p) × (i ≡ number a p) × (j ≡ number b p);
+      }
+      ∷ plain joinTooLarge ((c : Node) × (join H a b ≡ ok c) × (tooLarge c ≡ true))
+      ∷ plain noRoom ((c : Node) × (join H a b ≡ ok c) × (room < length (slipOf (rows c))))
+      ∷ []
+
+module _ (H : List ℕ → List ℕ) (composed : List ℕ → Bool) where
+  -- "5, 6, 7 at its internal node, 8 at its leaf": entry i, where the trees ns wait
+  abbrev pub entryCase : ℕ → List Node → Entry → List Case
+  entryCase i ns (node k) =
+      at childrenMissing i (length ns < k)
+      ∷ at tooHigh i (maxHeight < height (inner (runOf (kids k ns))))
+      ∷ at saltBroken i (salted (heads H (runOf (kids k ns))) ≡ false)
+      ∷ []
+  entryCase i ns (tip t v) = at notComposed i (textFits composed t v ≡ false) ∷ []
+
+  -- "then each entry in turn", from entry i on
+  abbrev pub entryCases : ℕ → List Node → List Entry → List Case
+  entryCases i ns [] = []
+  entryCases i ns (e ∷ es) = entryCase i ns e ++ entryCases (i + 1) (grow ns e) es
+
+  -- "Slip: 1, 2 for the header, 3, 4; then each entry in turn: 2, 5, 6, 7 at its internal node, 8 at its leaf; then 9, 10."
+  abbrev pub slipCases : List ℕ → List Case
+  slipCases s = headerCases s ++ (entryCases 0 [] (readingOf s .rows) ++ endCases s)
+
+  -- "Unpacker: slip, 11."
+  abbrev pub unpackCases : List ℕ → Table → List Case
+  unpackCases s b =
+      slipCases s
+      ++ (plain noRoom (lacksRoom (tableOf (readingOf s .rows)) (length (b .types)) (length (b .counts)) (length (b .lengths)) (length (b .values)) ≡ true) ∷ [])
+
+  -- "Packer: columns unequal or over 1,023 rows (16), 4, each row (16), values area not the sum of lengths (16), 1, then 5 to 8 by entry,
+  -- 9, 11."
+  abbrev pub packCases : Table → ℕ → List Case
+  packCases t room =
+      plain badTable (columnsFit (t .types) (t .counts) (t .lengths) ≡ false)
+      ∷ plain noNodes (length (t .types) ≡ 0)
+      ∷ (rowCases 0 (t .types) (t .counts) (t .lengths)
+      ++ (plain badTable (length (t .values) ≡ sum (t .lengths) → ⊥)
+      ∷ plain tooLong (maxBytes < length (slipOf (rowsOf t)))
+      ∷ (entryCases 0 [] (rowsOf t) ++ (treeCase (rowsOf t) ∷ plain noRoom (room < length (slipOf (rowsOf t))) ∷ []))))
+
+  -- "Pruner: slip, 12, 11."
+  abbrev pub pruneCases : List ℕ → List ℕ → ℕ → List Case
+  pruneCases s list room =
+      slipCases s
+      ++ (listCases (map children (readingOf s .rows)) 0 0 list
+      ++ (plain noRoom (room < length (slipOf (rows (pruned H list (slipTree s))))) ∷ []))
+
+  -- "Join: first slip (side 1), second slip (side 2), 13, 14, 15, 11; side is 0 otherwise."
+  abbrev pub joinCases : List ℕ → List ℕ → ℕ → List Case
+  joinCases s u room = map (on 1) (slipCases s) ++ (map (on 2) (slipCases u) ++ treesCases H (slipTree s) (slipTree u) room)
+
+-- the numbers of each call
+abbrev pub slipNumbers : List ℕ
+slipNumbers =
+    tooLong
+    ∷ cutShort
+    ∷ otherEdition
+    ∷ noNodes
+    ∷ childrenMissing
+    ∷ tooHigh
+    ∷ saltBroken
+    ∷ notComposed
+    ∷ notOneTree
+    ∷ badPadding
+    ∷ []
+
+abbrev pub unpackNumbers : List ℕ
+unpackNumbers = slipNumbers ++ (noRoom ∷ [])
+
+abbrev pub packNumbers : List ℕ
+packNumbers =
+    badTable ∷ noNodes ∷ tooLong ∷ childrenMissing ∷ tooHigh ∷ saltBroken ∷ notComposed ∷ notOneTree ∷ noRoom ∷ []
+
+abbrev pub pruneNumbers : List ℕ
+pruneNumbers = slipNumbers ++ (badList ∷ noRoom ∷ [])
+
+abbrev pub joinNumbers : List ℕ
+joinNumbers = slipNumbers ++ (rootsDiffer ∷ clashing ∷ joinTooLarge ∷ noRoom ∷ [])

@@ -2,12 +2,13 @@
 -- lengths (16), 1, then 5 to 8 by entry, 9, 11."
 use Prim.Native.Nat.{ℕ, _≤_}
 use mathlib.Core.Bool.{Bool, not, cond}
-use mathlib.Core.List.{List}
+use mathlib.Core.List.{List, [], _∷_}
 use mathlib.Core.Path.{_≡_}
 use lib.Dec.{ltb, eqb}
 use lib.ListN.{length}
+use Rattle.refusals.specs.Chain.{chain}
 use Rattle.trees.specs.Rules.{maxBytes}
-use Rattle.trees.specs.Rows.{Entry, Verdict, faulty, left, verdict}
+use Rattle.trees.specs.Rows.{Entry, Tag, Verdict, faulty, left, verdict}
 use Rattle.tables.specs.Refusals.{accepted, tooLong, noNodes, notOneTree, noRoom, badTable}
 use Rattle.tables.specs.Tables.{Table, entries, columnsFit, firstBad, rowBad, areaFits}
 use Rattle.tables.specs.TablesLaws.{Formed}
@@ -26,28 +27,41 @@ rowsOf t = entries (t .types) (t .counts) (t .lengths) (t .values)
 abbrev pub badRow : Table → ℕ
 badRow t = firstBad 0 (t .types) (t .counts) (t .lengths)
 
--- "columns unequal or over 1,023 rows (16), 4, each row (16), values area not the sum of lengths (16)": the refusal and its place. The tests
--- of 16 are those of `tableFits`.
-unfoldable pub faultOf : Table → Fault
-faultOf t =
-    cond (not (columnsFit (t .types) (t .counts) (t .lengths))) (record { number = badTable; place = 0 })
-    (cond (eqb (length (t .types)) 0) (record { number = noNodes; place = 0 })
-    (cond (rowBad t) (record { number = badTable; place = badRow t })
-    (cond (areaFits t) (record { number = accepted; place = 0 }) (record { number = badTable; place = 0 }))))
+-- "columns unequal or over 1,023 rows (16), 4, each row (16), values area not the sum of lengths (16)"; the tests of 16 are those of `tableFits`
+abbrev pub faultTests : Table → List (Bool × Fault)
+faultTests t =
+    (not (columnsFit (t .types) (t .counts) (t .lengths)), record { number = badTable; place = 0 })
+    ∷ (eqb (length (t .types)) 0, record { number = noNodes; place = 0 })
+    ∷ (rowBad t, record { number = badTable; place = badRow t })
+    ∷ (not (areaFits t), record { number = badTable; place = 0 })
+    ∷ []
 
--- "then 5 to 8 by entry, 9, 11", where the output has so much room
+-- the refusal and its place
+unfoldable pub faultOf : Table → Fault
+faultOf t = chain (faultTests t) (record { number = accepted; place = 0 })
+
+-- a refusal of the table, or the answer behind it
+abbrev pub tabled : Fault → Answer → Answer
+tabled f a = chain ((not (eqb (f .number) accepted), refused (f .number) (f .place)) ∷ []) a
+
+-- "1"
+abbrev pub sizeTests : Table → List (Bool × Answer)
+sizeTests t = (ltb maxBytes (length (slipOf (rowsOf t))), refused tooLong 0) ∷ []
+
+-- "9, 11", where the output has so much room
+abbrev pub judgedTests : List Entry → ℕ → List Tag → List (Bool × Answer)
+judgedTests es room st = (not (oneTree st), refused notOneTree 0) ∷ (ltb room (length (slipOf es)), refused noRoom 0) ∷ []
+
+-- "then 5 to 8 by entry, 9, 11"
 unfoldable pub judgedAs : List Entry → ℕ → Verdict → Answer
 judgedAs es room (faulty k i) = refused k i
-judgedAs es room (left st b) =
-    cond (not (oneTree st)) (refused notOneTree 0)
-    (cond (ltb room (length (slipOf es))) (refused noRoom 0) (taken (length (slipOf es)) b (rootLabel st)))
+judgedAs es room (left st b) = chain (judgedTests es room st) (taken (length (slipOf es)) b (rootLabel st))
 
 module _ (H : List ℕ → List ℕ) (composed : List ℕ → Bool) where
   -- the packer's answer
   unfoldable pub answerOf : Table → ℕ → Answer
   answerOf t room =
-      cond (not (eqb (faultOf t .number) accepted)) (refused (faultOf t .number) (faultOf t .place))
-      (cond (ltb maxBytes (length (slipOf (rowsOf t)))) (refused tooLong 0) (judgedAs (rowsOf t) room (verdict H composed (rowsOf t))))
+      tabled (faultOf t) (chain (sizeTests t) (judgedAs (rowsOf t) room (verdict H composed (rowsOf t))))
 
   -- the packing of a table into an output: the slip where it is accepted, and nothing else is written
   unfoldable pub packOf : Table → List ℕ → Packed

@@ -1,9 +1,10 @@
 -- What the pruning of a table answers and leaves: "12, 11."
 use Prim.Native.Nat.{ℕ}
-use mathlib.Core.Bool.{cond}
-use mathlib.Core.List.{List}
+use mathlib.Core.Bool.{Bool}
+use mathlib.Core.List.{List, [], _∷_}
 use lib.Dec.{ltb}
 use lib.ListN.{length}
+use Rattle.refusals.specs.Chain.{chain}
 use Rattle.trees.specs.Nodes.{Node}
 use Rattle.tables.specs.Refusals.{badList}
 use Rattle.tables.specs.Records.{firstFault}
@@ -12,9 +13,11 @@ use Rattle.slips.specs.Answers.{refused}
 use Rattle.slips.specs.Output.{Packed, still}
 use Rattle.send.specs.Sent.{sentTree}
 
--- "12, 11", of a tree n whose entries have so many children each: "Each becomes dangling with its label, and its descendants go." The place
--- of 12 is "the first faulty index in the list".
+-- "12", of a list for entries that have so many children each: its place is "the first faulty index in the list"
+abbrev pub listTests : List ℕ → List ℕ → List ℕ → List (Bool × Packed)
+listTests counts list out =
+    (ltb (firstFault counts 0 0 list) (length list), still (refused badList (firstFault counts 0 0 list)) out) ∷ []
+
+-- "12, 11", of a tree n whose entries have so many children each: "Each becomes dangling with its label, and its descendants go."
 unfoldable pub prunedOf : (List ℕ → List ℕ) → List ℕ → List ℕ → Node → List ℕ → Packed
-prunedOf H counts list n out =
-    cond (ltb (firstFault counts 0 0 list) (length list)) (still (refused badList (firstFault counts 0 0 list)) out)
-    (sentTree H (pruned H list n) out)
+prunedOf H counts list n out = chain (listTests counts list out) (sentTree H (pruned H list n) out)

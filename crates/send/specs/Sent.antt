@@ -1,10 +1,11 @@
 -- A slip handed out: "11", or the slip in the output.
 use Prim.Native.Nat.{ℕ, _≤_}
-use mathlib.Core.Bool.{cond}
-use mathlib.Core.List.{List}
+use mathlib.Core.Bool.{Bool}
+use mathlib.Core.List.{List, [], _∷_}
 use mathlib.Core.Path.{_≡_}
 use lib.Dec.{ltb}
 use lib.ListN.{length}
+use Rattle.refusals.specs.Chain.{chain}
 use Rattle.trees.specs.Nodes.{Node, label, blocks}
 use Rattle.trees.specs.Rules.{labelBytes}
 use Rattle.trees.specs.Rows.{Entry, rows}
@@ -17,11 +18,13 @@ use Rattle.slips.specs.declared.answer.Answer.{Answer}
 use Rattle.slips.specs.Answers.{refused, taken}
 use Rattle.slips.specs.Output.{over, Packed, Packs, still}
 
+-- "11"
+abbrev pub sentTests : List Entry → List ℕ → List (Bool × Packed)
+sentTests es out = (ltb (length out) (length (slipOf es)), still (refused noRoom 0) out) ∷ []
+
 -- the slip of entries whose blocks and root label are told: 11, or "length, blocks and root label of the slip written"
 unfoldable pub sent : List Entry → ℕ → List ℕ → List ℕ → Packed
-sent es b l out =
-    cond (ltb (length out) (length (slipOf es))) (still (refused noRoom 0) out)
-    (record { answer = taken (length (slipOf es)) b l; bytes = over (slipOf es) out })
+sent es b l out = chain (sentTests es out) (record { answer = taken (length (slipOf es)) b l; bytes = over (slipOf es) out })
 
 -- the slip of a tree
 abbrev pub sentTree : (List ℕ → List ℕ) → Node → List ℕ → Packed

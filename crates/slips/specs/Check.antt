@@ -1,12 +1,13 @@
 -- What the check answers: "Slip: 1, 2 for the header, 3, 4; then each entry in turn: 2, 5, 6, 7 at its internal node, 8 at its leaf; then 9, 10."
 use Prim.Native.Nat.{ℕ, _+_, _*_}
-use mathlib.Core.Bool.{Bool, not, cond, _&&_}
-use mathlib.Core.List.{List}
+use mathlib.Core.Bool.{Bool, not, _&&_}
+use mathlib.Core.List.{List, [], _∷_}
 use lib.Dec.{ltb, eqb}
 use lib.ListN.{length, take, drop}
+use Rattle.refusals.specs.Chain.{chain}
 use Rattle.bits.specs.Bits.{bitsOf, numOf}
 use Rattle.trees.specs.Rules.{maxBytes}
-use Rattle.trees.specs.Rows.{Verdict, faulty, left, verdict}
+use Rattle.trees.specs.Rows.{Tag, Verdict, faulty, left, verdict}
 use Rattle.tables.specs.Limits.{edition, editionBits, countBits}
 use Rattle.tables.specs.Refusals.{accepted, tooLong, cutShort, otherEdition, noNodes, notOneTree, badPadding}
 use Rattle.codec.specs.Reading.{Reading, readAll}
@@ -33,22 +34,35 @@ readingOf s = readAll (countOf s) (drop headerBits (bitsOf s))
 unfoldable pub paddingFits : List ℕ → Bool
 paddingFits rest = ltb (length rest) 8 && eqb (numOf rest) 0
 
--- the answer to n bytes whose entries were read and judged: a refusal of an entry read comes first; then the entry at which the bits end;
--- then 9, then 10
+-- "then 9, 10", by whether one tree waits and what is left of the bits
+abbrev pub endTests : Bool → List ℕ → List (Bool × Answer)
+endTests one rest = (not one, refused notOneTree 0) ∷ (not (paddingFits rest), refused badPadding 0) ∷ []
+
+-- the entry at which the bits end, then 9, then 10
+abbrev pub settledTests : Reading → List Tag → List (Bool × Answer)
+settledTests r st = (not (r .whole), refused cutShort (length (r .rows))) ∷ endTests (oneTree st) (r .rest)
+
+-- the answer to n bytes whose entries were read and judged: a refusal of an entry read comes first
 unfoldable pub settled : ℕ → Reading → Verdict → Answer
 settled n r (faulty k i) = refused k i
-settled n r (left st b) =
-    cond (not (r .whole)) (refused cutShort (length (r .rows)))
-    (cond (not (oneTree st)) (refused notOneTree 0)
-    (cond (paddingFits (r .rest)) (taken n b (rootLabel st)) (refused badPadding 0)))
+settled n r (left st b) = chain (settledTests r st) (taken n b (rootLabel st))
 
--- the refusal of a header, or 0 and the node count: "1, 2 for the header, 3, 4"
+-- "1, 2 for the header, 3, 4"
+abbrev pub headerTests : List ℕ → List (Bool × Header)
+headerTests s =
+    (ltb maxBytes (length s), record { number = tooLong; count = 0 })
+    ∷ (ltb (8 * length s) headerBits, record { number = cutShort; count = 0 })
+    ∷ (not (eqb (editionOf s) edition), record { number = otherEdition; count = 0 })
+    ∷ (eqb (countOf s) 0, record { number = noNodes; count = 0 })
+    ∷ []
+
+-- the refusal of a header, or 0 and the node count
 unfoldable pub headerOf : List ℕ → Header
-headerOf s =
-    cond (ltb maxBytes (length s)) (record { number = tooLong; count = 0 })
-    (cond (ltb (8 * length s) headerBits) (record { number = cutShort; count = 0 })
-    (cond (not (eqb (editionOf s) edition)) (record { number = otherEdition; count = 0 })
-    (cond (eqb (countOf s) 0) (record { number = noNodes; count = 0 }) (record { number = accepted; count = countOf s }))))
+headerOf s = chain (headerTests s) (record { number = accepted; count = countOf s })
+
+-- a refusal of the header, or the answer behind it
+abbrev pub headed : Header → Answer → Answer
+headed h a = chain ((not (eqb (h .number) accepted), refused (h .number) 0) ∷ []) a
 
 module _ (H : List ℕ → List ℕ) (composed : List ℕ → Bool) where
   -- the answer once the header has been taken
@@ -57,4 +71,4 @@ module _ (H : List ℕ → List ℕ) (composed : List ℕ → Bool) where
 
   -- the check of a slip
   unfoldable pub checkOf : List ℕ → Answer
-  checkOf s = cond (eqb (headerOf s .number) accepted) (bodyOf s) (refused (headerOf s .number) 0)
+  checkOf s = headed (headerOf s) (bodyOf s)

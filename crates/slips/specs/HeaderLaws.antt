@@ -1,6 +1,6 @@
 -- The header's tests, one after the other.
 use Prim.Native.Nat.{ℕ, _*_, _^_, _≤_, _<_}
-use mathlib.Core.Bool.{Bool, true, false, not, cond}
+use mathlib.Core.Bool.{Bool, false, not}
 use mathlib.Core.List.{List}
 use mathlib.Core.Path.{_≡_, refl, sym}
 use native.Mathlib.Omega.{arith}
@@ -9,6 +9,7 @@ use lib.Dec.{ltb, eqb}
 use native.Mathlib.Nat.{lt-of-lt-of-le}
 use lib.Pow.{pow-mono}
 use lib.ListN.{length, take, drop, length-take}
+use Rattle.refusals.specs.Chain.{chain-each}
 use Rattle.bits.specs.Bits.{bitsOf}
 use Rattle.bits.specs.FieldLaws.{num-small}
 use Rattle.trees.specs.Rules.{maxBytes, maxNodes}
@@ -16,7 +17,7 @@ use Rattle.tables.specs.Limits.{edition, editionBits, countBits}
 use Rattle.tables.specs.Refusals.{accepted, tooLong, cutShort, otherEdition, noNodes}
 use Rattle.slips.specs.declared.header.Header.{Header}
 use Rattle.slips.specs.Answers.{refused}
-use Rattle.slips.specs.Check.{headerBits, editionOf, countOf, headerOf, bodyOf, checkOf}
+use Rattle.slips.specs.Check.{headerBits, editionOf, countOf, headerTests, headerOf, bodyOf, checkOf}
 use Rattle.slips.specs.Opening.{Counted}
 
 module _ (s : List ℕ) where
@@ -58,26 +59,6 @@ module _ (s : List ℕ) where
               ne-eqb (countOf s) 0 h,
             ))
 
--- the header's answer, by the outcomes of its tests
-headerBy : Bool → Bool → Bool → Bool → ℕ → Header
-headerBy long short other none n =
-    cond long (record { number = tooLong; count = 0 })
-    (cond short (record { number = cutShort; count = 0 })
-    (cond other (record { number = otherEdition; count = 0 })
-    (cond none (record { number = noNodes; count = 0 }) (record { number = accepted; count = n }))))
-
--- a header that is taken has passed each test
-taken-by :
-    (long short other none : Bool) (n : ℕ)
-    → headerBy long short other none n .number ≡ accepted
-    → (long ≡ false) × (short ≡ false) × (other ≡ false) × (headerBy long short other none n .count ≡ n)
-unfolding headerBy
-taken-by true short other none n e = absurd (omega (arith, e))
-taken-by false true other none n e = absurd (omega (arith, e))
-taken-by false false true none n e = absurd (omega (arith, e))
-taken-by false false false true n e = absurd (omega (arith, e))
-taken-by false false false false n e = (refl, refl, refl, refl)
-
 -- 10 bits hold no more than 1,023
 count-few : (s : List ℕ) → countOf s ≤ maxNodes
 count-few s =
@@ -86,12 +67,19 @@ count-few s =
     let small : countOf s < 2 ^ countBits = lt-of-lt-of-le (num-small field) (pow-mono {j = countBits} long) in
     omega arith
 
--- a header that is taken: the slip is counted, and of this edition
+-- a header that is taken has passed each test: the slip is counted, and of this edition
 pub header-passed : (s : List ℕ) → headerOf s .number ≡ accepted
     → (ltb maxBytes (length s) ≡ false) × (ltb (8 * length s) headerBits ≡ false) × (not (eqb (editionOf s) edition) ≡ false) × (headerOf s .count ≡ countOf s)
-unfolding headerOf headerBy
-header-passed s e =
-    taken-by (ltb maxBytes (length s)) (ltb (8 * length s) headerBits) (not (eqb (editionOf s) edition)) (eqb (countOf s) 0) (countOf s) e
+unfolding headerOf
+header-passed s =
+    chain-each (λ h. h .number ≡ accepted → (ltb maxBytes (length s) ≡ false) × (ltb (8 * length s) headerBits ≡ false) × (not (eqb (editionOf s) edition) ≡ false) × (h .count ≡ countOf s))
+    (headerTests s) (record { number = accepted; count = countOf s }) (
+      λ e a. absurd (omega (arith, a)),
+      λ long. (
+        λ e a. absurd (omega (arith, a)),
+        λ cut. (λ e a. absurd (omega (arith, a)), λ other. (λ e a. absurd (omega (arith, a)), λ none a. (long, cut, other, refl))),
+      ),
+    )
 
 pub header-told : (s : List ℕ) → headerOf s .number ≡ accepted → Counted s (headerOf s .count) maxBytes maxNodes
 header-told s e =

@@ -6,19 +6,19 @@ use mathlib.Core.List.{List, [], _∷_}
 use mathlib.Core.Path.{_≡_, refl, ap, _∙_}
 use native.Mathlib.Omega.{arith}
 use lib.ListN.{length, drop}
+use Rattle.refusals.specs.Chain.{chain}
 use Rattle.bits.specs.Bits.{bitsOf}
 use Rattle.trees.specs.Rows.{Entry, Tag, Step, fault, next, Verdict, faulty, left, stepOf, onward, judged, verdict}
-use Rattle.tables.specs.Refusals.{cutShort, notOneTree, badPadding}
+use Rattle.tables.specs.Refusals.{cutShort}
 use Rattle.codec.specs.Reading.{Read, short, got, Reading, after, readOne, readAll}
 use Rattle.engine.specs.Engine.{oneTree, rootLabel}
 use Rattle.slips.specs.declared.answer.Answer.{Answer}
 use Rattle.slips.specs.Answers.{refused, taken}
-use Rattle.slips.specs.Check.{headerBits, countOf, readingOf, paddingFits, settled, bodyOf}
+use Rattle.slips.specs.Check.{headerBits, countOf, readingOf, endTests, settled, bodyOf}
 
 -- "then 9, 10"
 abbrev pub closed : ℕ → List ℕ → List Tag → ℕ → Answer
-closed n rest st b =
-    cond (not (oneTree st)) (refused notOneTree 0) (cond (paddingFits rest) (taken n b (rootLabel st)) (refused badPadding 0))
+closed n rest st b = chain (endTests (oneTree st) rest) (taken n b (rootLabel st))
 
 -- a refusal at its entry, or what follows
 abbrev pub stepped : Step → ℕ → (List Tag → ℕ → Answer) → Answer

@@ -1,12 +1,13 @@
 -- What a slip is opened in, and what the opened areas hold.
 use Prim.Native.Nat.{ℕ, _*_, _≤_}
-use mathlib.Core.Bool.{Bool, not, cond}
-use mathlib.Core.List.{List}
+use mathlib.Core.Bool.{Bool, not}
+use mathlib.Core.List.{List, _∷_}
 use mathlib.Core.Path.{_≡_}
 use lib.Dec.{eqb}
 use lib.ListN.{length, take}
+use Rattle.refusals.specs.Chain.{chain}
 use Rattle.trees.specs.Rules.{maxNodes, maxBytes, labelBytes}
-use Rattle.tables.specs.Refusals.{accepted, cutShort, notOneTree, badPadding}
+use Rattle.tables.specs.Refusals.{accepted, cutShort}
 use Rattle.tables.specs.Tables.{entries, firstBad, sum}
 use Rattle.sha2.specs.Sha256 as Sha256
 use Rattle.titles.specs.Compose.{composedText}
@@ -15,14 +16,14 @@ use Rattle.engine.specs.declared.judge.Judged.{Judged}
 use Rattle.slips.specs.declared.answer.Answer.{Answer}
 use Rattle.slips.specs.declared.open.Opened.{Opened}
 use Rattle.slips.specs.Answers.{refused, taken}
-use Rattle.slips.specs.Check.{headerBits, countOf, readingOf, paddingFits, bodyOf}
+use Rattle.slips.specs.Check.{headerBits, countOf, readingOf, endTests, bodyOf}
 
 -- the answer to n bytes, from what the engine tells of the rows read
 unfoldable pub settledBy : ℕ → ℕ → Bool → List ℕ → Judged → Answer
 settledBy n rows whole rest j =
-    cond (not (eqb (j .number) accepted)) (refused (j .number) (j .place))
-    (cond (not whole) (refused cutShort rows)
-    (cond (not (j .one)) (refused notOneTree 0) (cond (paddingFits rest) (taken n (j .blocks) (j .label)) (refused badPadding 0))))
+    chain
+    ((not (eqb (j .number) accepted), refused (j .number) (j .place)) ∷ (not whole, refused cutShort rows) ∷ endTests (j .one) rest)
+    (taken n (j .blocks) (j .label))
 
 -- a slip of n entries whose header is taken, and room for its rows, its values and its labels
 pub record Lent (s : List ℕ) (n : ℕ) (types counts lengths values labels : List ℕ) : Type 0 where

@@ -1,13 +1,14 @@
 -- The check accepts exactly the slips of well-formed trees, each of one tree, with that tree's label and blocks.
 use Prim.Native.Nat.{ℕ, _*_, _≤_, _<_}
-use mathlib.Core.Bool.{Bool, true, false, not, cond, true≢false}
+use mathlib.Core.Bool.{Bool, true, false, not, true≢false}
 use mathlib.Core.List.{List, [], _∷_}
 use mathlib.Core.Path.{_≡_, refl, sym, ap, ap₂, _∙_, subst}
 use native.Mathlib.Omega.{arith}
-use borrow.Author.Tests.{eq-eqb, eqb-true, eqb-false, lt-ltb, ltb-true}
+use borrow.Author.Tests.{eq-eqb, eqb-true, eqb-false, lt-ltb, ltb-true, not-false}
 use lib.Dec.{ltb, eqb}
 use lib.Pow.{pow-pos}
 use lib.ListN.{length, drop, replicate, length-replicate}
+use Rattle.refusals.specs.Chain.{chain-each}
 use Rattle.bits.specs.Bits.{bitsIn, bitsOf, numOf}
 use Rattle.bits.specs.Lists.{Below, below-drop}
 use Rattle.bits.specs.FieldLaws.{bits-num, bits-zero, num-field}
@@ -20,7 +21,7 @@ use Rattle.trees.specs.Rows.{Entry, formed, rows, Tag, tagOf, Verdict, faulty, 
 use Rattle.trees.specs.RowsLaws.{length-rows, rows-inj}
 use Rattle.trees.specs.StackLaws.{complete-tree}
 use Rattle.trees.specs.StackSound.{Built, sound-one, built-well-formed}
-use Rattle.tables.specs.Refusals.{accepted, cutShort, notOneTree, badPadding}
+use Rattle.tables.specs.Refusals.{accepted}
 use Rattle.codec.specs.Writing.{slipOf}
 use Rattle.codec.specs.Reading.{Reading, readAll}
 use Rattle.codec.specs.Reader.{headBits}
@@ -30,7 +31,7 @@ use Rattle.codec.specs.SlipLaws.{Reads, slip-reads, reads-slip, slip-unique}
 use Rattle.engine.specs.Engine.{oneTree, rootLabel}
 use Rattle.slips.specs.declared.answer.Answer.{Answer}
 use Rattle.slips.specs.Answers.{refused, taken}
-use Rattle.slips.specs.Check.{headerBits, countOf, readingOf, paddingFits, settled, headerOf, bodyOf, checkOf}
+use Rattle.slips.specs.Check.{headerBits, countOf, readingOf, paddingFits, settledTests, settled, headerOf, bodyOf, checkOf}
 use Rattle.slips.specs.HeaderLaws.{header-counted, header-told, header-edition-is, check-refused, check-body}
 use Rattle.slips.specs.Verdicts.{Refuses, verdict-refuses}
 
@@ -58,19 +59,6 @@ padding-told rest below e =
     let zero = eqb-true (numOf rest) 0 (and-right (ltb (length rest) 8) (eqb (numOf rest) 0) e) in
     (few, sym (bits-num rest below) ∙ ap (bitsIn (length rest)) zero ∙ bits-zero (length rest))
 
--- the answer behind the entries, by the outcomes of its tests
-settledTests : ℕ → ℕ → Bool → Bool → Bool → ℕ → List ℕ → Answer
-settledTests n rows whole one pad b l =
-    cond (not whole) (refused cutShort rows) (cond (not one) (refused notOneTree 0) (cond pad (taken n b l) (refused badPadding 0)))
-
-accepted-by : (n rows : ℕ) (whole one pad : Bool) (b : ℕ) (l : List ℕ) → settledTests n rows whole one pad b l .number ≡ accepted
-    → (whole ≡ true) × (one ≡ true) × (pad ≡ true)
-unfolding settledTests
-accepted-by n rows false one pad b l e = absurd (omega (arith, e))
-accepted-by n rows true false pad b l e = absurd (omega (arith, e))
-accepted-by n rows true true false b l e = absurd (omega (arith, e))
-accepted-by n rows true true true b l e = (refl, refl, refl)
-
 -- what an accepted verdict has been: one tag of type 0, all read, and padding
 pub record Settled (r : Reading) (v : Verdict) : Type 0 where
   pub root : Tag
@@ -95,10 +83,20 @@ one-told n r (g ∷ []) b t =
 one-told n r (g ∷ (h ∷ gs)) b t = absurd (true≢false (sym (t .1)))
 
 pub settled-told-by : (n : ℕ) (r : Reading) (v : Verdict) → Refuses v → settled n r v .number ≡ accepted → Settled r v
-unfolding settled settledTests
+unfolding settled
 settled-told-by n r (faulty k i) p e = absurd (p e)
 settled-told-by n r (left st b) p e =
-    one-told n r st b (accepted-by n (length (r .rows)) (r .whole) (oneTree st) (paddingFits (r .rest)) b (rootLabel st) e)
+    chain-each (λ a. a .number ≡ accepted → Settled r (left st b)) (settledTests r st) (taken n b (rootLabel st)) (
+      λ c a. absurd (omega (arith, a)),
+      λ whole. (
+        λ c a. absurd (omega (arith, a)),
+        λ one. (
+          λ c a. absurd (omega (arith, a)),
+          λ pad a. one-told n r st b (not-false (r .whole) whole, not-false (oneTree st) one, not-false (paddingFits (r .rest)) pad),
+        ),
+      ),
+    )
+    e
 
 pub proper-formed : (es : List Entry) → AllProper es → all formed es ≡ true
 proper-formed [] p = refl

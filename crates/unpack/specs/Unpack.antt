@@ -1,10 +1,11 @@
 -- What the unpacker answers and leaves: "Unpacker: slip, 11."
 use Prim.Native.Nat.{ℕ}
-use mathlib.Core.Bool.{Bool, not, cond, _||_}
-use mathlib.Core.List.{List, map}
+use mathlib.Core.Bool.{Bool, not, _||_}
+use mathlib.Core.List.{List, [], _∷_, map}
 use mathlib.Core.Path.{_≡_}
 use lib.Dec.{ltb, eqb}
 use lib.ListN.{length, take}
+use Rattle.refusals.specs.Chain.{chain}
 use Rattle.trees.specs.Rows.{Entry}
 use Rattle.tables.specs.Refusals.{accepted, noRoom}
 use Rattle.tables.specs.Tables.{Table, sum}
@@ -48,12 +49,14 @@ tableIn n b =
     }
 
 -- "slip, 11": an answer to a slip, and its table for the buffers b
+abbrev pub handedTests : Answer → Table → Table → List (Bool × Unpacked)
+handedTests a t b =
+    (not (eqb (a .number) accepted), record { answer = a; buffers = b })
+    ∷ (lacksRoom t (length (b .types)) (length (b .counts)) (length (b .lengths)) (length (b .values)), record { answer = refused noRoom 0; buffers = b })
+    ∷ []
+
 unfoldable pub handedOf : Answer → Table → Table → Unpacked
-handedOf a t b =
-    cond (not (eqb (a .number) accepted)) (record { answer = a; buffers = b })
-    (cond (lacksRoom t (length (b .types)) (length (b .counts)) (length (b .lengths)) (length (b .values)))
-    (record { answer = refused noRoom 0; buffers = b })
-    (record { answer = a; buffers = overAll t b }))
+handedOf a t b = chain (handedTests a t b) (record { answer = a; buffers = overAll t b })
 
 -- the table of a list of entries
 abbrev pub tableOf : List Entry → Table

@@ -1,0 +1,2 @@
+-- Outcomes by tests in order.
+pub mod Chain
