@@ -46,8 +46,8 @@ use Rattle.both_slips.specs.Both.{sided, bothTests}
 use Rattle.join_tables.specs.Joined.{clashed, tooLarge, largeTests, joinedOf}
 use Rattle.join.specs.Join.{leaving, joinOf}
 use Rattle.demands.specs.InOrder.{Case, at, plain, on, among, InOrder}
-use Rattle.demands.specs.InOrderLaws.{free, linked, onto, past}
-use Rattle.demands.specs.Refusals.{says, Stated, Refuses, Leaves, Hands, OneTree, Names, rowCases, listCases, headerCases, treeCase, endCases, entryCase, entryCases, slipCases, unpackCases, packCases, pruneCases, treesCases, joinCases, slipNumbers, unpackNumbers, packNumbers, pruneNumbers, joinNumbers}
+use Rattle.demands.specs.InOrderLaws.{free, linked, onto, one-of, past}
+use Rattle.demands.specs.Refusals.{says, Stated, Refuses, Leaves, Hands, OneTree, Names, rowCases, listCases, headerCases, treeCase, roomCase, endCases, entryCase, entryCases, bodyCases, slipCases, unpackCases, formedCases, packCases, pruneCases, treesCases, joinCases, slipNumbers, unpackNumbers, packNumbers, pruneNumbers, joinNumbers}
 
 -- a test as its negation
 swap : {A : Type 0} (b : Bool) (x y : A) → cond b x y ≡ cond (not b) y x
@@ -66,6 +66,14 @@ among-more (a ∷ x) y k e = or-more (eqb a k) (among x k) (among (x ++ y) k) (a
 -- the number 0 is none of a slip's
 real : (k : ℕ) → among slipNumbers k ≡ true → k ≡ accepted → ⊥
 real k e z = false≢true (subst (λ (n : ℕ). among slipNumbers n ≡ true) z e)
+
+-- a refusal's number is one of the call's
+pub refusal-number : (numbers : List ℕ) (cases : List Case) (a : Answer) → Stated numbers cases a → Refuses a → among numbers (a .number) ≡ true
+refusal-number numbers cases a x h = go (one-of says (a .number ≡ accepted) a (among numbers) cases (x .listed) (x .order))
+  where
+    go : (a .number ≡ accepted) ⊎ ((c : Case) × (i : ℕ) × (j : ℕ) × (among numbers (c .number) ≡ true) × (a ≡ says c i j)) → among numbers (a .number) ≡ true
+    go (inl e) = absurd (h e)
+    go (inr g) = ap (λ (y : Answer). among numbers (y .number)) (g .4) ∙ g .3
 
 -- as many entries are read as the header names, or fewer where the bits end before
 after-whole : (r : Read) (b : List ℕ) (go : List ℕ → Reading) (n : ℕ) → ((z : List ℕ) → go z .whole ≡ true → n ≤ length (go z .rows))
@@ -179,7 +187,7 @@ module _ (H : List ℕ → List ℕ) (composed : List ℕ → Bool) where
 
   slip-listed : (f : ℕ → Bool) → ((k : ℕ) → among slipNumbers k ≡ true → f k ≡ true) → (s : List ℕ) → all (λ (c : Case). f (c .number)) (slipCases H composed s) ≡ true
   slip-listed f h s =
-      all-append (λ (c : Case). f (c .number)) (headerCases s) (entryCases H composed 0 [] (readingOf s .rows) ++ endCases s)
+      all-append (λ (c : Case). f (c .number)) (headerCases s) (bodyCases H composed s)
       (and-both (f tooLong) _ (h tooLong refl)
       (and-both (f cutShort) _ (h cutShort refl) (and-both (f otherEdition) _ (h otherEdition refl) (and-both (f noNodes) true (h noNodes refl) refl))))
       (all-append (λ (c : Case). f (c .number)) (entryCases H composed 0 [] (readingOf s .rows)) (endCases s)
@@ -303,7 +311,7 @@ module _ (H : List ℕ → List ℕ) (composed : List ℕ → Bool) where
         ),
       )
 
-  body-order : (s : List ℕ) → InOrder says (entryCases H composed 0 [] (readingOf s .rows) ++ endCases s) (bodyOf H composed s .number ≡ accepted) (bodyOf H composed s)
+  body-order : (s : List ℕ) → InOrder says (bodyCases H composed s) (bodyOf H composed s .number ≡ accepted) (bodyOf H composed s)
   unfolding bodyOf settled
   body-order s =
       let r : Reading = readingOf s in
@@ -316,9 +324,8 @@ module _ (H : List ℕ → List ℕ) (composed : List ℕ → Bool) where
   unfolding checkOf headerOf
   check-order s =
       let body : Answer = bodyOf H composed s in
-      let rest : List Case = entryCases H composed 0 [] (readingOf s .rows) ++ endCases s in
-      onto says _ _ _ (headerCases s) rest (λ x. x)
-      (linked says (λ h. headed h body) (λ h. InOrder says rest (headed h body .number ≡ accepted) (headed h body)) (headerTests s)
+      onto says _ _ _ (headerCases s) (bodyCases H composed s) (λ x. x)
+      (linked says (λ h. headed h body) (λ h. InOrder says (bodyCases H composed s) (headed h body .number ≡ accepted) (headed h body)) (headerTests s)
       (record { number = accepted; count = countOf s }) (headerCases s) (
         λ e. (0, 0, (refl, refl, ltb-true maxBytes (length s) e), refl),
         λ e. (
@@ -364,15 +371,13 @@ module _ (H : List ℕ → List ℕ) (composed : List ℕ → Bool) where
   unpack-order s b =
       let a : Answer = checkOf H composed s in
       let t : Table = tableOf (readingOf s .rows) in
-      let lacks : Bool = lacksRoom t (length (b .types)) (length (b .counts)) (length (b .lengths)) (length (b .values)) in
-      let ds : List Case = plain noRoom (lacks ≡ true) ∷ [] in
-      chain-each (λ u. InOrder says (slipCases H composed s ++ ds) (u .answer .number ≡ accepted) (u .answer)) (handedTests a t b)
+      chain-each (λ u. InOrder says (unpackCases H composed s b) (u .answer .number ≡ accepted) (u .answer)) (handedTests a t b)
       (record { answer = a; buffers = overAll t b }) (
-        λ e. slip-refused _ s ds (eqb-false (a .number) accepted (not-true (eqb (a .number) accepted) e)),
+        λ e. slip-refused _ s _ (eqb-false (a .number) accepted (not-true (eqb (a .number) accepted) e)),
         λ e.
             let good : a .number ≡ accepted = eqb-true (a .number) accepted (not-false (eqb (a .number) accepted) e) in (
-              λ l. slip-passed _ _ s ds good (inl (0, 0, (refl, refl, l), refl)),
-              λ l. slip-passed _ _ s ds good (inr (free (λ h. true≢false (sym h ∙ l)), good)),
+              λ l. slip-passed _ _ s _ good (inl (0, 0, (refl, refl, l), refl)),
+              λ l. slip-passed _ _ s _ good (inr (free (λ h. true≢false (sym h ∙ l)), good)),
             ),
       )
 
@@ -398,13 +403,13 @@ module _ (H : List ℕ → List ℕ) (composed : List ℕ → Bool) where
 
   -- behind the entries of a table: 9, 11
   judged-order : (t : Table) (room : ℕ) (ns : List Node) (b : ℕ) → grown (rowsOf t) [] ≡ ns
-      → InOrder says (treeCase (rowsOf t) ∷ plain noRoom (room < length (slipOf (rowsOf t))) ∷ [])
+      → InOrder says (treeCase (rowsOf t) ∷ roomCase (rowsOf t) room ∷ [])
       (judgedAs (rowsOf t) room (left (map (tagOf H) ns) b) .number ≡ accepted) (judgedAs (rowsOf t) room (left (map (tagOf H) ns) b))
   unfolding judgedAs
   judged-order t room ns b e =
       linked says (λ a. a) (λ a. a .number ≡ accepted) (judgedTests (rowsOf t) room (map (tagOf H) ns))
       (taken (length (slipOf (rowsOf t))) b (rootLabel (map (tagOf H) ns)))
-      (treeCase (rowsOf t) ∷ plain noRoom (room < length (slipOf (rowsOf t))) ∷ []) (
+      (treeCase (rowsOf t) ∷ roomCase (rowsOf t) room ∷ []) (
         λ o. (0, 0, (refl, refl, λ x. one-false H ns (not-true (oneTree (map (tagOf H) ns)) o) (subst OneTree e x)), refl),
         λ o. (
           free (λ h. h (subst OneTree (sym e) (one-true H ns (not-false (oneTree (map (tagOf H) ns)) o)))),
@@ -416,22 +421,18 @@ module _ (H : List ℕ → List ℕ) (composed : List ℕ → Bool) where
       )
 
   -- "1, then 5 to 8 by entry, 9, 11"
-  size-order : (t : Table) (room : ℕ) (a : Answer) → a ≡ judgedAs (rowsOf t) room (verdict H composed (rowsOf t))
-      → InOrder says
-      (plain tooLong (maxBytes < length (slipOf (rowsOf t)))
-      ∷ (entryCases H composed 0 [] (rowsOf t) ++ (treeCase (rowsOf t) ∷ plain noRoom (room < length (slipOf (rowsOf t))) ∷ [])))
-      (chain (sizeTests t) a .number ≡ accepted) (chain (sizeTests t) a)
+  formed-order : (t : Table) (room : ℕ) (a : Answer) → a ≡ judgedAs (rowsOf t) room (verdict H composed (rowsOf t))
+      → InOrder says (formedCases H composed t room) (chain (sizeTests t) a .number ≡ accepted) (chain (sizeTests t) a)
   unfolding judgedAs
-  size-order t room a is =
+  formed-order t room a is =
       let es : List Entry = rowsOf t in
       let F : Verdict → Answer = judgedAs es room in
-      let ends : List Case = treeCase es ∷ plain noRoom (room < length (slipOf es)) ∷ [] in
-      let rest : List Case = entryCases H composed 0 [] es ++ ends in
-      chain-each (λ x. InOrder says (plain tooLong (maxBytes < length (slipOf es)) ∷ rest) (x .number ≡ accepted) x) (sizeTests t) a (
+      let ends : List Case = treeCase es ∷ roomCase es room ∷ [] in
+      chain-each (λ x. InOrder says (formedCases H composed t room) (x .number ≡ accepted) x) (sizeTests t) a (
         λ l. inl (0, 0, (refl, refl, ltb-true maxBytes (length (slipOf es)) l), refl),
         λ l. inr (
           free (λ h. omega (arith, h, ltb-false maxBytes (length (slipOf es)) l)),
-          subst (λ (x : Answer). InOrder says rest (x .number ≡ accepted) x) (sym is)
+          subst (λ (x : Answer). InOrder says (entryCases H composed 0 [] es ++ ends) (x .number ≡ accepted) x) (sym is)
               (onto says _ _ _ (entryCases H composed 0 [] es) ends
               (λ x. subst (λ (v : Verdict). InOrder says ends (F v .number ≡ accepted) (F v)) (sym (x .1)) (judged-order t room (grown es []) (x .0) refl))
               (entries-order F (λ k i. refl) es 0 0 [])),
@@ -445,10 +446,6 @@ module _ (H : List ℕ → List ℕ) (composed : List ℕ → Bool) where
       let ts : List ℕ = t .types in
       let fits : Bool = columnsFit (t .types) (t .counts) (t .lengths) in
       let last : Answer = chain (sizeTests t) (judgedAs (rowsOf t) room (verdict H composed (rowsOf t))) in
-      let area : List Case =
-      plain badTable (length (t .values) ≡ sum (t .lengths) → ⊥)
-      ∷ plain tooLong (maxBytes < length (slipOf (rowsOf t)))
-      ∷ (entryCases H composed 0 [] (rowsOf t) ++ (treeCase (rowsOf t) ∷ plain noRoom (room < length (slipOf (rowsOf t))) ∷ [])) in
       chain-each (λ f. InOrder says (packCases H composed t room) (tabled f last .number ≡ accepted) (tabled f last)) (faultTests t)
       (record { number = accepted; place = 0 }) (
         λ c. inl (0, 0, (refl, refl, not-true fits c), refl),
@@ -461,7 +458,7 @@ module _ (H : List ℕ → List ℕ) (composed : List ℕ → Bool) where
                   no-columns,
                   inr (
                     free (eqb-false (length ts) 0 z),
-                    rows-order _ (refused badTable (badRow t)) area 0 (t .types) (t .counts) (t .lengths) (k .counted) (k .measured) (λ m. refl)
+                    rows-order _ (refused badTable (badRow t)) _ 0 (t .types) (t .counts) (t .lengths) (k .counted) (k .measured) (λ m. refl)
                         (λ m. absurd (omega (arith, m, ltb-true (badRow t) (length ts) r))),
                   ),
                 ),
@@ -470,7 +467,7 @@ module _ (H : List ℕ → List ℕ) (composed : List ℕ → Bool) where
                     no-columns,
                     inr (
                       free (eqb-false (length ts) 0 z),
-                      rows-order _ (refused badTable 0) area 0 (t .types) (t .counts) (t .lengths) (k .counted) (k .measured)
+                      rows-order _ (refused badTable 0) _ 0 (t .types) (t .counts) (t .lengths) (k .counted) (k .measured)
                           (λ m. absurd (omega (arith, m, ltb-false (badRow t) (length ts) r)))
                           (λ m. inl (0, 0, (refl, refl, eqb-false (length (t .values)) (sum (t .lengths)) (not-true (eqb (length (t .values)) (sum (t .lengths))) v)), refl)),
                     ),
@@ -479,11 +476,11 @@ module _ (H : List ℕ → List ℕ) (composed : List ℕ → Bool) where
                     no-columns,
                     inr (
                       free (eqb-false (length ts) 0 z),
-                      rows-order _ last area 0 (t .types) (t .counts) (t .lengths) (k .counted) (k .measured)
+                      rows-order _ last _ 0 (t .types) (t .counts) (t .lengths) (k .counted) (k .measured)
                           (λ m. absurd (omega (arith, m, ltb-false (badRow t) (length ts) r)))
                           (λ m. inr (
                             free (λ h. h (eqb-true (length (t .values)) (sum (t .lengths)) (not-false (eqb (length (t .values)) (sum (t .lengths))) v))),
-                            size-order t room (judgedAs (rowsOf t) room (verdict H composed (rowsOf t))) refl,
+                            formed-order t room (judgedAs (rowsOf t) room (verdict H composed (rowsOf t))) refl,
                           )),
                     ),
                   ),
@@ -510,11 +507,11 @@ module _ (H : List ℕ → List ℕ) (composed : List ℕ → Bool) where
 
   -- "11"
   sent-order : (es : List Entry) (b : ℕ) (l out : List ℕ)
-      → InOrder says (plain noRoom (length out < length (slipOf es)) ∷ []) (sent es b l out .answer .number ≡ accepted) (sent es b l out .answer)
+      → InOrder says (roomCase es (length out) ∷ []) (sent es b l out .answer .number ≡ accepted) (sent es b l out .answer)
   unfolding sent
   sent-order es b l out =
       linked says (λ p. p .answer) (λ p. p .answer .number ≡ accepted) (sentTests es out)
-      (record { answer = taken (length (slipOf es)) b l; bytes = over (slipOf es) out }) (plain noRoom (length out < length (slipOf es)) ∷ []) (
+      (record { answer = taken (length (slipOf es)) b l; bytes = over (slipOf es) out }) (roomCase es (length out) ∷ []) (
         λ e. (0, 0, (refl, refl, ltb-true (length out) (length (slipOf es)) e), refl),
         λ e. (free (λ h. omega (arith, h, ltb-false (length out) (length (slipOf es)) e)), refl),
       )
@@ -527,12 +524,12 @@ module _ (H : List ℕ → List ℕ) (composed : List ℕ → Bool) where
 
   -- "12, 11"
   pruned-order : (counts list : List ℕ) (n : Node) (out : List ℕ)
-      → InOrder says (listCases counts 0 0 list ++ (plain noRoom (length out < length (slipOf (rows (pruned H list n)))) ∷ []))
+      → InOrder says (listCases counts 0 0 list ++ (roomCase (rows (pruned H list n)) (length out) ∷ []))
       (prunedOf H counts list n out .answer .number ≡ accepted) (prunedOf H counts list n out .answer)
   unfolding prunedOf
   pruned-order counts list n out =
       let m : Node = pruned H list n in
-      let ds : List Case = plain noRoom (length out < length (slipOf (rows m))) ∷ [] in
+      let ds : List Case = roomCase (rows m) (length out) ∷ [] in
       chain-each (λ p. InOrder says (listCases counts 0 0 list ++ ds) (p .answer .number ≡ accepted) (p .answer)) (listTests counts list out) (sentTree H m out) (
         λ e. list-order _ (refused badList (firstFault counts 0 0 list)) ds counts 0 0 list (λ k. refl)
             (λ k. absurd (omega (arith, k, ltb-true (firstFault counts 0 0 list) (length list) e))),
@@ -554,15 +551,14 @@ module _ (H : List ℕ → List ℕ) (composed : List ℕ → Bool) where
   prune-stated s list out =
       let a : Answer = checkOf H composed s in
       let counts : List ℕ = map children (readingOf s .rows) in
-      let ds : List Case = listCases counts 0 0 list ++ (plain noRoom (length out < length (slipOf (rows (pruned H list (slipTree s))))) ∷ []) in
       record {
         stated =
             record {
               order =
-                  chain-each (λ p. InOrder says (slipCases H composed s ++ ds) (p .answer .number ≡ accepted) (p .answer)) (slipTests a out)
+                  chain-each (λ p. InOrder says (pruneCases H composed s list (length out)) (p .answer .number ≡ accepted) (p .answer)) (slipTests a out)
                   (prunedOf H counts list (slipTree s) out) (
-                    λ e. slip-refused _ s ds (eqb-false (a .number) accepted (not-true (eqb (a .number) accepted) e)),
-                    λ e. slip-passed _ _ s ds (eqb-true (a .number) accepted (not-false (eqb (a .number) accepted) e)) (pruned-order counts list (slipTree s) out),
+                    λ e. slip-refused _ s _ (eqb-false (a .number) accepted (not-true (eqb (a .number) accepted) e)),
+                    λ e. slip-passed _ _ s _ (eqb-true (a .number) accepted (not-false (eqb (a .number) accepted) e)) (pruned-order counts list (slipTree s) out),
                   );
               listed =
                   all-append (λ (c : Case). among pruneNumbers (c .number)) (slipCases H composed s) _
@@ -599,7 +595,7 @@ module _ (H : List ℕ → List ℕ) (composed : List ℕ → Bool) where
         ),
       )
     where
-      again : (Q : Type 0) (x : Answer) → InOrder says (plain noRoom (length out < length (slipOf (rows c))) ∷ []) Q x
+      again : (Q : Type 0) (x : Answer) → InOrder says (roomCase (rows c) (length out) ∷ []) Q x
           → InOrder says (drop 3 (treesCases H a b (length out))) Q x
       again Q x (inl g) = inl (g .0, g .1, (g .2 .0, g .2 .1, (c, e, g .2 .2)), g .3)
       again Q x (inr g) =
@@ -635,23 +631,21 @@ module _ (H : List ℕ → List ℕ) (composed : List ℕ → Bool) where
   join-order s u out =
       let a : Answer = checkOf H composed s in
       let b : Answer = checkOf H composed u in
-      let trees : List Case = treesCases H (slipTree s) (slipTree u) (length out) in
-      let two : List Case = map (on 2) (slipCases H composed u) ++ trees in
-      chain-each (λ p. InOrder says (map (on 1) (slipCases H composed s) ++ two) (p .answer .number ≡ accepted) (p .answer)) (map (leaving out) (bothTests a b))
+      chain-each (λ p. InOrder says (joinCases H composed s u (length out)) (p .answer .number ≡ accepted) (p .answer)) (map (leaving out) (bothTests a b))
       (joinedOf H (slipTree s) (slipTree u) out (join H (slipTree s) (slipTree u))) (
-        λ e. side-refused _ 1 s two (eqb-false (a .number) accepted (not-true (eqb (a .number) accepted) e)),
+        λ e. side-refused _ 1 s _ (eqb-false (a .number) accepted (not-true (eqb (a .number) accepted) e)),
         λ e.
             let one : a .number ≡ accepted = eqb-true (a .number) accepted (not-false (eqb (a .number) accepted) e) in (
-              λ d. side-passed _ _ 1 s two one (side-refused _ 2 u trees (eqb-false (b .number) accepted (not-true (eqb (b .number) accepted) d))),
+              λ d. side-passed _ _ 1 s _ one (side-refused _ 2 u _ (eqb-false (b .number) accepted (not-true (eqb (b .number) accepted) d))),
               λ d.
                   let both : b .number ≡ accepted = eqb-true (b .number) accepted (not-false (eqb (b .number) accepted) d) in (
-                    λ l. side-passed _ _ 1 s two one (side-passed _ _ 2 u trees both (inl (
+                    λ l. side-passed _ _ 1 s _ one (side-passed _ _ 2 u _ both (inl (
                       0,
                       0,
                       (refl, refl, λ h. same-false (a .label) (b .label) (not-true (same (a .label) (b .label)) l) (told-label s one ∙ h ∙ sym (told-label u both))),
                       refl,
                     ))),
-                    λ l. side-passed _ _ 1 s two one (side-passed _ _ 2 u trees both (inr (
+                    λ l. side-passed _ _ 1 s _ one (side-passed _ _ 2 u _ both (inr (
                       free (λ h. h (sym (told-label s one) ∙ same-true (a .label) (b .label) (not-false (same (a .label) (b .label)) l) ∙ told-label u both)),
                       joined-order (slipTree s) (slipTree u) out (join H (slipTree s) (slipTree u)) refl,
                     ))),

@@ -38,6 +38,13 @@ module _ {A : Type 0} (says : Case → ℕ → ℕ → A) where
   onto Q R a (c ∷ cs) ds k (inl g) = inl g
   onto Q R a (c ∷ cs) ds k (inr x) = inr (x .0, onto Q R a cs ds k (x .1))
 
+  -- the answer's number is one of the list's
+  pub one-of : (Q : Type 0) (a : A) (ok : ℕ → Bool) (cs : List Case) → all (λ (c : Case). ok (c .number)) cs ≡ true → InOrder says cs Q a
+      → Q ⊎ ((c : Case) × (i : ℕ) × (j : ℕ) × (ok (c .number) ≡ true) × (a ≡ says c i j))
+  one-of Q a ok [] r x = inl x
+  one-of Q a ok (c ∷ cs) r (inl g) = inr (c, g .0, g .1, and-left (ok (c .number)) (all (λ (d : Case). ok (d .number)) cs) r, g .3)
+  one-of Q a ok (c ∷ cs) r (inr x) = one-of Q a ok cs (and-right (ok (c .number)) (all (λ (d : Case). ok (d .number)) cs) r) (x .1)
+
   -- where the answer a is none of the list's, none of the list is given
   pub past : (Q R : Type 0) (a b : A) (ok : ℕ → Bool) (cs ds : List Case) → all (λ (c : Case). ok (c .number)) cs ≡ true
       → ((c : Case) (i j : ℕ) → ok (c .number) ≡ true → a ≡ says c i j → ⊥)

@@ -79,9 +79,13 @@ headerCases s =
     ∷ plain noNodes (countOf s ≡ 0)
     ∷ []
 
--- "then 9", of the entries es
+-- "9", of the entries es
 abbrev pub treeCase : List Entry → Case
 treeCase es = plain notOneTree (OneTree (grown es []) → ⊥)
+
+-- "11", of the slip of the entries es
+abbrev pub roomCase : List Entry → ℕ → Case
+roomCase es room = plain noRoom (room < length (slipOf es))
 
 -- behind the entries: 2 at the first that is not there, "then 9, 10"
 abbrev pub endCases : List ℕ → List Case
@@ -120,15 +124,25 @@ module _ (H : List ℕ → List ℕ) (composed : List ℕ → Bool) where
   entryCases i ns [] = []
   entryCases i ns (e ∷ es) = entryCase i ns e ++ entryCases (i + 1) (grow ns e) es
 
-  -- "Slip: 1, 2 for the header, 3, 4; then each entry in turn: 2, 5, 6, 7 at its internal node, 8 at its leaf; then 9, 10."
+  -- "then each entry in turn: 2, 5, 6, 7 at its internal node, 8 at its leaf; then 9, 10"
+  abbrev pub bodyCases : List ℕ → List Case
+  bodyCases s = entryCases 0 [] (readingOf s .rows) ++ endCases s
+
+  -- "Slip: 1, 2 for the header, 3, 4; then each entry in turn .."
   abbrev pub slipCases : List ℕ → List Case
-  slipCases s = headerCases s ++ (entryCases 0 [] (readingOf s .rows) ++ endCases s)
+  slipCases s = headerCases s ++ bodyCases s
 
   -- "Unpacker: slip, 11."
   abbrev pub unpackCases : List ℕ → Table → List Case
   unpackCases s b =
       slipCases s
       ++ (plain noRoom (lacksRoom (tableOf (readingOf s .rows)) (length (b .types)) (length (b .counts)) (length (b .lengths)) (length (b .values)) ≡ true) ∷ [])
+
+  -- "1, then 5 to 8 by entry, 9, 11"
+  abbrev pub formedCases : Table → ℕ → List Case
+  formedCases t room =
+      plain tooLong (maxBytes < length (slipOf (rowsOf t)))
+      ∷ (entryCases 0 [] (rowsOf t) ++ (treeCase (rowsOf t) ∷ roomCase (rowsOf t) room ∷ []))
 
   -- "Packer: columns unequal or over 1,023 rows (16), 4, each row (16), values area not the sum of lengths (16), 1, then 5 to 8 by entry,
   -- 9, 11."
@@ -137,16 +151,13 @@ module _ (H : List ℕ → List ℕ) (composed : List ℕ → Bool) where
       plain badTable (columnsFit (t .types) (t .counts) (t .lengths) ≡ false)
       ∷ plain noNodes (length (t .types) ≡ 0)
       ∷ (rowCases 0 (t .types) (t .counts) (t .lengths)
-      ++ (plain badTable (length (t .values) ≡ sum (t .lengths) → ⊥)
-      ∷ plain tooLong (maxBytes < length (slipOf (rowsOf t)))
-      ∷ (entryCases 0 [] (rowsOf t) ++ (treeCase (rowsOf t) ∷ plain noRoom (room < length (slipOf (rowsOf t))) ∷ []))))
+      ++ (plain badTable (length (t .values) ≡ sum (t .lengths) → ⊥) ∷ formedCases t room))
 
   -- "Pruner: slip, 12, 11."
   abbrev pub pruneCases : List ℕ → List ℕ → ℕ → List Case
   pruneCases s list room =
       slipCases s
-      ++ (listCases (map children (readingOf s .rows)) 0 0 list
-      ++ (plain noRoom (room < length (slipOf (rows (pruned H list (slipTree s))))) ∷ []))
+      ++ (listCases (map children (readingOf s .rows)) 0 0 list ++ (roomCase (rows (pruned H list (slipTree s))) room ∷ []))
 
   -- "Join: first slip (side 1), second slip (side 2), 13, 14, 15, 11; side is 0 otherwise."
   abbrev pub joinCases : List ℕ → List ℕ → ℕ → List Case
