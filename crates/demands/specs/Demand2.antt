@@ -21,7 +21,7 @@ use Rattle.sha2.specs.Sha256 as Sha256
 use Rattle.sha2.specs.Blocks.{Octets, label-long, label-octets}
 use Rattle.titles.specs.Refusals as Titles
 use Rattle.unicode.specs.Utf8.{encodes, decode}
-use Rattle.unicode.specs.Repertoire.{allPlain}
+use Rattle.unicode.specs.Repertoire.{allPlain, allIn}
 use Rattle.unicode.specs.Nfc.{nfc}
 use Rattle.titles.specs.Compose.{composedText, acceptedWith, outcome}
 use Rattle.titles.specs.Titles.{title-nfc, accepted-nfc, equal-nfc}
@@ -102,20 +102,21 @@ pub table-labels-told : (n : Node) (room : ℕ) → WellFormed Sha256.label comp
     → answerOf Sha256.label composedText (tableOf (rows n)) room ≡ treeAnswer Sha256.label composedText n room
 table-labels-told n room w = pack-tree Sha256.label composedText n room w
 
--- "A title is stored in the composed form of Unicode (NFC) within our repertoire": what is accepted is written in NFC
+-- "A title is stored in the composed form of Unicode (NFC) within our repertoire": what is accepted has all its characters in the repertoire,
+-- where `nfc` is Unicode's, and is written in NFC
 pub nfc-stored : (title out : List ℕ) → outcome title out .answer .number ≡ Titles.accepted
-    → (allPlain (nfc (decode title)) ≡ true) × (outcome title out ≡ acceptedWith (encodes (nfc (decode title))) out)
+    → (allIn (decode title) ≡ true) × (allPlain (nfc (decode title)) ≡ true) × (outcome title out ≡ acceptedWith (encodes (nfc (decode title))) out)
 nfc-stored title out e = accepted-nfc title out e
 
--- a title within the limit whose NFC is composed text is accepted where that has room
-pub nfc-accepted : (title out : List ℕ) → length title ≤ Titles.maxBytes → allPlain (nfc (decode title)) ≡ true
+-- a title of the repertoire, within the limit, whose NFC is composed text is accepted where that has room
+pub nfc-accepted : (title out : List ℕ) → length title ≤ Titles.maxBytes → allIn (decode title) ≡ true → allPlain (nfc (decode title)) ≡ true
     → length (encodes (nfc (decode title))) ≤ length out → outcome title out ≡ acceptedWith (encodes (nfc (decode title))) out
-nfc-accepted title out under plain room = title-nfc title out under plain room
+nfc-accepted title out under known plain room = title-nfc title out under known plain room
 
 -- so É as one letter and as E and a mark are stored alike
-pub nfc-alike : (x y out : List ℕ) → length x ≤ Titles.maxBytes → length y ≤ Titles.maxBytes → nfc (decode x) ≡ nfc (decode y)
-    → outcome x out .answer .number ≡ Titles.accepted → outcome y out ≡ outcome x out
-nfc-alike x y out ux uy e z = equal-nfc x y out ux uy e z
+pub nfc-alike : (x y out : List ℕ) → length x ≤ Titles.maxBytes → length y ≤ Titles.maxBytes → allIn (decode y) ≡ true
+    → nfc (decode x) ≡ nfc (decode y) → outcome x out .answer .number ≡ Titles.accepted → outcome y out ≡ outcome x out
+nfc-alike x y out ux uy known e z = equal-nfc x y out ux uy known e z
 
 -- "A table packed and unpacked is the same table": what the packer writes, unpacked into buffers with room, gives the packer's answer, and
 -- the table stands in the buffers

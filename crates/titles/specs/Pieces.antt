@@ -14,7 +14,7 @@ use Rattle.unicode.specs.Repertoire.{plain, allPlain}
 use Rattle.unicode.specs.Joining.{joined, Piece, bad, one, two, pieces}
 use Rattle.unicode.specs.Bounds.{at-least, at-most, width-2, encode-2}
 use Rattle.unicode.specs.Decoding.{decode-next, decode-end, front-fits}
-use Rattle.unicode.specs.Sequences.{front-splits}
+use Rattle.unicode.specs.Sequences.{front-starts}
 use Rattle.unicode.specs.Rows.{joint}
 use Rattle.unicode.specs.Marks.{mark-within, plain-small}
 
@@ -34,10 +34,10 @@ pub plain-fits : (s : List ℕ) → 0 < length s → plain (front s) ≡ true �
 plain-fits s some e = front-fits s some (plain-not-ill (front s) e)
 
 -- what joins a letter is a mark
-pub mark-bounds : (l m : ℕ) → eqb (joined l m) 0 ≡ false → (768 ≤ m) × (m ≤ 831)
+pub mark-bounds : (l m : ℕ) → eqb (joined l m) 0 ≡ false → (0x300 ≤ m) × (m ≤ 0x33F)
 mark-bounds l m some =
     let w = mark-within m (joint l m some .mark) in
-    (at-least 768 831 m w, at-most 768 831 m w)
+    (at-least 0x300 0x33F m w, at-most 0x300 0x33F m w)
 
 -- past the end there is no mark
 pub front-none : (s : List ℕ) → length s ≤ 0 → front s ≡ 0
@@ -51,21 +51,21 @@ joins-some l s some =
     (λ p. absurd (omega (arith, mark-bounds l (front s) some .0, front-none s (ltb-false 0 (length s) p))))
 
 -- a mark's first byte is CC
-lead : (b : ℕ) (t : List ℕ) → 768 ≤ front (b ∷ t) → front (b ∷ t) ≤ 831 → b ≡ 204
+lead : (b : ℕ) (t : List ℕ) → 0x300 ≤ front (b ∷ t) → front (b ∷ t) ≤ 0x33F → b ≡ 0xCC
 lead b t p q =
     let m = front (b ∷ t) in
-    let e = front-splits b t (ne-eqb m ill (λ x. omega arith)) in
+    let e = front-starts b t (ne-eqb m ill (λ x. omega arith)) .splits in
     let f = rw (encode-2 m (omega arith) (omega arith)) at e in
     omega (arith, ap (λ (l : List ℕ). getD l 0 0) f)
 
-pub no-mark : (l : ℕ) (s : List ℕ) → (getD s 0 0 ≡ 204 → ⊥) → joined l (front s) ≡ 0
+pub no-mark : (l : ℕ) (s : List ℕ) → (getD s 0 0 ≡ 0xCC → ⊥) → joined l (front s) ≡ 0
 no-mark l [] off = eqb-true _ 0 (either (eqb (joined l (front [])) 0) (λ p. p) (λ p. absurd (omega (arith, joins-some l [] p))))
 no-mark l (b ∷ t) off =
     eqb-true _ 0
     (either (eqb (joined l (front (b ∷ t))) 0) (λ p. p)
     (λ p. absurd (off (lead b t (mark-bounds l (front (b ∷ t)) p .0) (mark-bounds l (front (b ∷ t)) p .1)))))
 
-pieces-bad : (c : ℕ) (cs : List ℕ) → plain c ≡ false → pieces (c ∷ cs) ≡ bad c ∷ []
+pub pieces-bad : (c : ℕ) (cs : List ℕ) → plain c ≡ false → pieces (c ∷ cs) ≡ bad c ∷ []
 unfolding pieces
 pieces-bad c [] e = rw e
 pieces-bad c (m ∷ cs) e = rw e

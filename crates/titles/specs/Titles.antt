@@ -12,7 +12,7 @@ use Rattle.unicode.specs.Tests.{and-left, and-right, and-both, either}
 use Rattle.titles.specs.Refusals.{accepted, maxBytes}
 use Rattle.titles.specs.declared.Composed.{Composed}
 use Rattle.unicode.specs.Utf8.{scalar, scalars, width, encode, encodes, decode}
-use Rattle.unicode.specs.Repertoire.{isMark, plain, allPlain}
+use Rattle.unicode.specs.Repertoire.{isMark, plain, allPlain, allIn}
 use Rattle.unicode.specs.Nfc.{nfc}
 use Rattle.unicode.specs.Joining.{joined, accepts, composed}
 use Rattle.titles.specs.Compose.{text, acceptedWith, Outcome, outcome, Met, composedText}
@@ -22,7 +22,7 @@ use Rattle.unicode.specs.Rows.{joint}
 use Rattle.unicode.specs.Marks.{mark-within, plain-small}
 use Rattle.titles.specs.Outcomes.{long, refused, short, taken, judged-accepts, refused-length}
 use Rattle.unicode.specs.Composes.{Composes, done, stay, join, letter-plain, joins-mark, accepts-composes}
-use Rattle.unicode.specs.NfcTheorem.{accepts-nfc, nfc-composed, equal-accepts, equal-composed, composed-plain, plain-accepts, plain-composed}
+use Rattle.unicode.specs.NfcTheorem.{accepts-nfc, nfc-composed, equal-composed, composed-plain, plain-accepts, plain-composed}
 
 -- the contract leaves one answer and one content of the buffer
 pub one-answer : (title out left left′ : List ℕ) (r r′ : Composed) → Met title out r left → Met title out r′ left′ → (r ≡ r′) × (left ≡ left′)
@@ -75,13 +75,13 @@ refused-nothing title out some =
     (λ a. rw (refused title _ out p a refl) (refl, refused-length title a)))
 
 -- a title's characters are scalar values where all are taken
-plain-scalar : (c : ℕ) → plain c ≡ true → scalar c ≡ true
+pub plain-scalar : (c : ℕ) → plain c ≡ true → scalar c ≡ true
 unfolding scalar
-plain-scalar c p = rw (lt-ltb c 55296 (omega (arith, plain-small c p)))
+plain-scalar c p = rw (lt-ltb c 0xD800 (omega (arith, plain-small c p)))
 
-mark-scalar : (m : ℕ) → isMark m ≡ true → scalar m ≡ true
+pub mark-scalar : (m : ℕ) → isMark m ≡ true → scalar m ≡ true
 unfolding scalar
-mark-scalar m k = rw (lt-ltb m 55296 (omega (arith, at-most 768 831 m (mark-within m k))))
+mark-scalar m k = rw (lt-ltb m 0xD800 (omega (arith, at-most 0x300 0x33F m (mark-within m k))))
 
 composes-scalars : {cs os : List ℕ} → Composes cs os → scalars cs ≡ true
 unfolding scalars
@@ -103,9 +103,9 @@ sizes done = omega arith
 sizes (stay {c} {cs} {os} p h) = rw (length-append (encode c) (encodes os), length-append (encode c) (encodes cs)) (omega (arith, sizes h))
 sizes (join {l} {m} {w} {cs} {os} e n h) =
     let j = joint l m (rw e n) .whole in
-    let size : width w ≡ 2 = rw (← e) (width-2 (joined l m) (omega (arith, at-least 192 255 (joined l m) j)) (omega (arith, at-most 192 255 (joined l m) j))) in
+    let size : width w ≡ 2 = rw (← e) (width-2 (joined l m) (omega (arith, at-least 0xC0 0xFF (joined l m) j)) (omega (arith, at-most 0xC0 0xFF (joined l m) j))) in
     let k = mark-within m (joins-mark l m w e n) in
-    let mark : width m ≡ 2 = width-2 m (omega (arith, at-least 768 831 m k)) (omega (arith, at-most 768 831 m k)) in
+    let mark : width m ≡ 2 = width-2 m (omega (arith, at-least 0x300 0x33F m k)) (omega (arith, at-most 0x300 0x33F m k)) in
     rw (
       length-append (encode w) (encodes os),
       length-append (encode l) (encode m ++ encodes cs),
@@ -121,41 +121,45 @@ text-shorter title a =
     let h = accepts-composes (decode title) a in
     omega (arith, sizes h, ap length (encodes-decode title (composes-scalars h)))
 
--- accepted, lengths aside, exactly when the title's NFC is composed text; and then the output is the encoding of its NFC
+-- accepted, lengths aside, exactly when all of the title's characters are in the repertoire, where `nfc` is Unicode's, and its NFC is composed
+-- text; and then the output is the encoding of its NFC
 pub title-nfc :
     (title out : List ℕ)
     → length title ≤ maxBytes
+    → allIn (decode title) ≡ true
     → allPlain (nfc (decode title)) ≡ true
     → length (encodes (nfc (decode title))) ≤ length out
     → outcome title out ≡ acceptedWith (encodes (nfc (decode title))) out
 unfolding text
-title-nfc title out under e room =
-    let a = accepts-nfc (decode title) ∙ e in
+title-nfc title out under known e room =
+    let a = accepts-nfc (decode title) ∙ and-both known e in
     taken title _ out (le-ltb maxBytes (length title) under) a (ap encodes (sym (nfc-composed (decode title) a))) room
 
 pub accepted-nfc :
     (title out : List ℕ)
     → outcome title out .answer .number ≡ accepted
-    → (allPlain (nfc (decode title)) ≡ true) × (outcome title out ≡ acceptedWith (encodes (nfc (decode title))) out)
+    → (allIn (decode title) ≡ true) × (allPlain (nfc (decode title)) ≡ true) × (outcome title out ≡ acceptedWith (encodes (nfc (decode title))) out)
 unfolding text
 accepted-nfc title out z =
     let t = was-taken title out z in
-    (sym (accepts-nfc (decode title)) ∙ t .all, t .whole ∙ rw (nfc-composed (decode title) (t .all)))
+    let e = sym (accepts-nfc (decode title)) ∙ t .all in
+    (and-left (allIn (decode title)) _ e, and-right (allIn (decode title)) _ e, t .whole ∙ rw (nfc-composed (decode title) (t .all)))
 
--- two titles of equal NFC, none over the limit, get the same acceptance and, where accepted, the same bytes
+-- two titles of equal NFC, none over the limit, get the same acceptance and, where accepted, the same bytes; the second's characters are in the
+-- repertoire, as those of one that is accepted are
 pub equal-nfc :
     (x y out : List ℕ)
     → length x ≤ maxBytes
     → length y ≤ maxBytes
+    → allIn (decode y) ≡ true
     → nfc (decode x) ≡ nfc (decode y)
     → outcome x out .answer .number ≡ accepted
     → outcome y out ≡ outcome x out
 unfolding text
-equal-nfc x y out ux uy e z =
+equal-nfc x y out ux uy known e z =
     let t = was-taken x out z in
-    let same = equal-composed (decode x) (decode y) e (t .all) in
-    let a = sym (equal-accepts (decode x) (decode y) e) ∙ t .all in
-    taken y (text x) out (le-ltb maxBytes (length y) uy) a (ap encodes (sym same)) (t .room) ∙ sym (t .whole)
+    let same = equal-composed (decode x) (decode y) known e (t .all) in
+    taken y (text x) out (le-ltb maxBytes (length y) uy) (same .0) (ap encodes (sym (same .1))) (t .room) ∙ sym (t .whole)
 
 -- the composed bytes decode to the composed characters
 decode-text : (title : List ℕ) → accepts (decode title) ≡ true → decode (text title) ≡ composed (decode title)

@@ -49,7 +49,7 @@ pieces-stay c p done = rw p
 pieces-stay c p (stay {c = c′} q h) = rw (p, plain-no-join c c′ q)
 pieces-stay c p (join {l} {m} {w} e n h) = rw (p, plain-no-join c l (letter-plain l m w e n))
 
-pieces-join : (l m w : ℕ) (cs : List ℕ) → joined l m ≡ w → eqb w 0 ≡ false → pieces (l ∷ (m ∷ cs)) ≡ two l m ∷ pieces cs
+pub pieces-join : (l m w : ℕ) (cs : List ℕ) → joined l m ≡ w → eqb w 0 ≡ false → pieces (l ∷ (m ∷ cs)) ≡ two l m ∷ pieces cs
 unfolding pieces
 pieces-join l m w cs e n = rw (letter-plain l m w e n, e, n)
 

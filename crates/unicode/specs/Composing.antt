@@ -4,85 +4,42 @@ use mathlib.Core.Bool.{true, false, not, _&&_}
 use mathlib.Core.List.{List, [], _∷_, _++_}
 use Prim.Native.Nat.{ℕ}
 use lib.Dec.{eqb}
-use borrow.Author.Tests.{eq-eqb, not-true}
+use borrow.Author.Tests.{eq-eqb}
 use Rattle.unicode.specs.Tests.{and-left, and-right, and-both, either, clash, refuted}
-use Rattle.unicode.specs.Repertoire.{isMark, plain, allPlain}
-use Rattle.unicode.specs.Pairs.{Pair, pair, found, pairs}
-use Rattle.unicode.specs.Others.{others}
+use Rattle.unicode.specs.Repertoire.{plain, allPlain}
+use Rattle.unicode.specs.Pairs.{pairs}
 use Rattle.unicode.specs.Nfc.{classOf, blocked, composite, composing, composedFrom}
 use Rattle.unicode.specs.Joining.{joined}
-use Rattle.unicode.specs.Rows.{joint, at-found, otherRule, others-ruled, noLetter, joinless}
-use Rattle.unicode.specs.Marks.{plain-no-mark, no-mark-class}
+use Rattle.unicode.specs.Rows.{latin, noLetter, joint, composed-told, joinless}
+use Rattle.unicode.specs.Marks.{plain-class}
 use Rattle.unicode.specs.Composes.{Composes, done, stay, join, letter-plain, starts}
 
--- a table after another is searched where the first has no row
-found-append-first : (ps qs : List Pair) (l m : ℕ) → eqb (found ps l m) 0 ≡ false → found (ps ++ qs) l m ≡ found ps l m
-unfolding found
-found-append-first [] qs l m e = absurd (clash refl e)
-found-append-first (pair letter mark whole ∷ ps) qs l m e =
-    either (eqb mark m && eqb letter l) (λ hit. rw hit) (λ miss. rw miss (found-append-first ps qs l m (rw miss at e)))
-
-found-append :
-    (ps qs : List Pair) (l m : ℕ) (A : Type 0)
-    → (found (ps ++ qs) l m ≡ found ps l m → A)
-    → (found (ps ++ qs) l m ≡ found qs l m → A)
-    → A
-unfolding found
-found-append [] qs l m A f g = g refl
-found-append (pair letter mark whole ∷ ps) qs l m A f g =
-    either (eqb mark m && eqb letter l)
-    (λ hit. f (rw hit))
-    (λ miss. found-append ps qs l m A (λ e. f (rw miss e)) (λ e. g (rw miss e)))
-
--- a primary composite is a pair's, or one outside the repertoire
-record Outside (m w : ℕ) : Type 0 where
-  mark : isMark m ≡ true
-  outside : plain w ≡ false
-  last : noLetter w ≡ true
-
-outside : (l m : ℕ) → eqb (found others l m) 0 ≡ false → Outside m (found others l m)
-unfolding otherRule
-outside l m n =
-    let w = found others l m in
-    let e = at-found otherRule others others-ruled l m n in
-    let r = and-right (isMark m) _ e in
-    record {
-      mark = and-left (isMark m) _ e;
-      outside = not-true (plain w) (and-left (not (plain w)) _ r);
-      last = and-right (not (plain w)) _ r;
-    }
-
+-- a composite is a pair's, or one outside U+00C0 to U+00FF
 composite-cases :
     (l m : ℕ) (A : Type 0)
     → eqb (composite l m) 0 ≡ false
-    → (composite l m ≡ joined l m → eqb (joined l m) 0 ≡ false → A)
-    → (Outside m (composite l m) → A)
+    → (composite l m ≡ joined l m → A)
+    → (plain (composite l m) ≡ false → noLetter (composite l m) ≡ true → A)
     → A
-unfolding composite joined
 composite-cases l m A n f g =
-    found-append pairs others l m A (λ e. f e (rw e at n)) (λ e. g (rw e (outside l m (rw e at n))))
+    let t = composed-told l m n in
+    either (latin (composite l m)) (λ i. f (sym (t .within-joined i))) (λ o. g (t .outside-plain o) (t .outside-last o))
 
 composite-joined : (l m w : ℕ) → joined l m ≡ w → eqb w 0 ≡ false → composite l m ≡ w
-unfolding composite joined
-composite-joined l m w e n = found-append-first pairs others l m (rw e n) ∙ e
+composite-joined l m w e n = joint l m (rw e n) .made ∙ e
 
 -- a plain character composes with nothing before it
 composite-plain : (l c : ℕ) → plain c ≡ true → eqb (composite l c) 0 ≡ true
 composite-plain l c p =
-    either (eqb (composite l c) 0) (λ e. e)
-    (λ n.
-    absurd
-    (composite-cases l c ⊥ n
-    (λ e k. clash (joint l c k .mark) (plain-no-mark c p))
-    (λ o. clash (o .mark) (plain-no-mark c p))))
+    either (eqb (composite l c) 0) (λ e. e) (λ n. absurd (clash p (composed-told l c n .second)))
 
-plain-class : (c : ℕ) → plain c ≡ true → eqb (classOf c) 0 ≡ true
-plain-class c p = eq-eqb (classOf c) 0 (no-mark-class c (plain-no-mark c p))
+plain-starter : (c : ℕ) → plain c ≡ true → eqb (classOf c) 0 ≡ true
+plain-starter c p = eq-eqb (classOf c) 0 (plain-class c p)
 
 -- one turn of the algorithm
 starter-turn : (x c : ℕ) (cs : List ℕ) → plain c ≡ true → composing x [] (c ∷ cs) ≡ x ∷ composing c [] cs
 unfolding composing blocked
-starter-turn x c cs p = rw (composite-plain x c p, plain-class c p)
+starter-turn x c cs p = rw (composite-plain x c p, plain-starter c p)
 
 joined-turn : (l m w : ℕ) (cs : List ℕ) → joined l m ≡ w → eqb w 0 ≡ false → composing l [] (m ∷ cs) ≡ composing w [] cs
 unfolding composing blocked
@@ -100,9 +57,9 @@ composing-composes x (join {l} {m} {w} {cs} e n h) =
 pub from-composes : {cs os : List ℕ} → Composes cs os → composedFrom cs ≡ os
 unfolding composedFrom
 from-composes done = refl
-from-composes (stay {c} {cs} p h) = rw (plain-class c p) (composing-composes c h)
+from-composes (stay {c} {cs} p h) = rw (plain-starter c p) (composing-composes c h)
 from-composes (join {l} {m} {w} {cs} e n h) =
-    rw (plain-class l (letter-plain l m w e n)) (joined-turn l m w cs e n ∙ composing-composes w h)
+    rw (plain-starter l (letter-plain l m w e n)) (joined-turn l m w cs e n ∙ composing-composes w h)
 
 -- the other way
 plain-left : (xs ys : List ℕ) → allPlain (xs ++ ys) ≡ true → allPlain xs ≡ true
@@ -122,9 +79,9 @@ kept l k (c ∷ cs) e =
     (λ s. plain-left k (composing c [] cs) (and-right (plain l) _ (rw (t, s) at e)))
     (λ s. plain-left k (c ∷ []) (kept l (k ++ (c ∷ [])) cs (rw (t, s) at e))))
 
--- a character of a class above 0 is a mark, and not plain
+-- a character of a class above 0 is not plain
 class-not-plain : (c : ℕ) → eqb (classOf c) 0 ≡ false → plain c ≡ false
-class-not-plain c s = refuted (plain c) (λ p. clash (plain-class c p) s)
+class-not-plain c s = refuted (plain c) (λ p. clash (plain-starter c p) s)
 
 -- no row has it for a letter, so it takes no mark
 last-letter : (x m w : ℕ) → noLetter x ≡ true → joined x m ≡ w → eqb w 0 ≡ false → ⊥
@@ -139,14 +96,14 @@ whole-back :
     → Composes (l ∷ (c ∷ cs)) os
 whole-back l c cs os n h =
     composite-cases l c (Composes (l ∷ (c ∷ cs)) os) n
-    (λ e k.
+    (λ e.
     starts (Composes (l ∷ (c ∷ cs)) os) h
     (λ rest q p g. rw q (join (sym e) n g))
-    (λ m w ds rest q r j v g. absurd (last-letter (composite l c) m w (rw e (joint l c k .last)) j v)))
-    (λ o.
+    (λ m w ds rest q r j v g. absurd (last-letter (composite l c) m w (rw e (joint l c (rw e at n) .last)) j v)))
+    (λ outside last.
     starts (Composes (l ∷ (c ∷ cs)) os) h
-    (λ rest q p g. absurd (clash p (o .outside)))
-    (λ m w ds rest q r j v g. absurd (last-letter (composite l c) m w (o .last) j v)))
+    (λ rest q p g. absurd (clash p outside))
+    (λ m w ds rest q r j v g. absurd (last-letter (composite l c) m w last j v)))
 
 pub composes-composing : (l : ℕ) (cs : List ℕ) → allPlain (composing l [] cs) ≡ true → Composes (l ∷ cs) (composing l [] cs)
 unfolding composing blocked allPlain

@@ -5,46 +5,47 @@ use mathlib.Core.List.{List, [], _∷_, _++_}
 use Prim.Native.Nat.{ℕ}
 use native.Mathlib.Omega.{arith}
 use lib.Dec.{eqb}
-use lib.ListN.{length, getD, drop}
+use lib.ListN.{length}
 use borrow.Author.Tests.{ne-eqb}
-use Rattle.unicode.specs.Tests.{clash}
-use Rattle.unicode.specs.Repertoire.{isMark}
-use Rattle.unicode.specs.Pairs.{pairs}
-use Rattle.unicode.specs.Nfc.{parts, decomposed}
+use Rattle.unicode.specs.Cons.{head, tail}
+use Rattle.unicode.specs.Tests.{either, clash}
+use Rattle.unicode.specs.Utf8.{within}
+use Rattle.unicode.specs.Repertoire.{isMark, plain}
+use Rattle.unicode.specs.Decompositions.{decompositions}
+use Rattle.unicode.specs.Nfc.{parts, decomposed, composite}
 use Rattle.unicode.specs.Joining.{joined}
-use Rattle.unicode.specs.Bounds.{at-least}
-use Rattle.unicode.specs.Rows.{Joint, joint, decomposes, stays}
-use Rattle.unicode.specs.Marks.{mark-no-whole, plain-no-mark, ascii-plain, latin-plain}
-use Rattle.unicode.specs.Composes.{Composes, done, stay, join, letter-plain, joins-mark, starts}
+use Rattle.unicode.specs.Rows.{latin, Made, joint, decomposes, stays}
+use Rattle.unicode.specs.Marks.{mark-no-whole}
+use Rattle.unicode.specs.Composes.{Composes, done, stay, join, letter-plain, whole-plain, joins-mark, starts}
 
-whole-some : (l m c : ℕ) → Joint l m c → eqb c 0 ≡ false
-whole-some l m c j = ne-eqb c 0 (λ z. omega (arith, at-least 192 255 c (j .whole)))
+-- a plain character that is taken apart is a letter and a mark that join to it
+plain-joins : (l m c : ℕ) → plain c ≡ true → Made l m c → joined l m ≡ c
+plain-joins l m c p d =
+    either (latin c) (λ i. d .within-joined i) (λ o. absurd (clash p (d .outside-plain o)))
+
+plain-some : (c : ℕ) → plain c ≡ true → eqb c 0 ≡ false
+unfolding plain within
+plain-some c p = ne-eqb c 0 (λ z. clash p (rw z))
 
 pub decomposed-composes : {cs os : List ℕ} → Composes cs os → Composes (decomposed cs) os
 unfolding decomposed
 decomposed-composes done = done
 decomposed-composes (stay {c} {cs} {os} p h) =
     let ih = decomposed-composes h in
-    decomposes c (Composes (parts pairs c ++ decomposed cs) (c ∷ os))
+    decomposes c (Composes (parts decompositions c ++ decomposed cs) (c ∷ os))
     (λ e. rw e (stay p ih))
-    (λ l m e j. rw e (join (j .same) (whole-some l m c j) ih))
+    (λ l m e d. rw e (join (plain-joins l m c p d) (plain-some c p) ih))
 decomposed-composes (join {l} {m} {w} {cs} {os} e n h) =
     let j = joint l m (rw e n) in
-    rw (stays l pairs (j .apart), stays m pairs (mark-no-whole m (j .mark)))
+    rw (stays l decompositions (j .apart), stays m decompositions (mark-no-whole m (j .mark)))
     (join e n (decomposed-composes h))
 
--- a text that composes starts with no mark
-no-mark-first : {m : ℕ} {cs os : List ℕ} → isMark m ≡ true → Composes (m ∷ cs) os → ⊥
-no-mark-first {m} k h =
+-- a text that composes starts with a plain character
+plain-first : {m : ℕ} {cs os : List ℕ} → plain m ≡ false → Composes (m ∷ cs) os → ⊥
+plain-first {m} k h =
     starts ⊥ h
-    (λ rest e p g. clash k (plain-no-mark m p))
-    (λ m′ w ds rest e q j n g. clash k (plain-no-mark m (letter-plain m m′ w j n)))
-
-head : {a b : ℕ} {xs ys : List ℕ} → a ∷ xs ≡ b ∷ ys → a ≡ b
-head {a} {b} {xs} {ys} e = ap (λ (l : List ℕ). getD l 0 0) e
-
-tail : {a b : ℕ} {xs ys : List ℕ} → a ∷ xs ≡ b ∷ ys → xs ≡ ys
-tail {a} {b} {xs} {ys} e = ap (λ (l : List ℕ). drop 1 l) e
+    (λ rest e p g. clash p k)
+    (λ m′ w ds rest e q j n g. clash (letter-plain m m′ w j n) k)
 
 -- a mark at the head of what a text decomposes to is the text's own
 mark-head :
@@ -57,12 +58,12 @@ unfolding decomposed
 mark-head c cs m ds A e k f =
     decomposes c A
     (λ p. let q = rw p at e in f (head q) (tail q))
-    (λ l m′ p j. let q = rw p at e in absurd (clash (rw (head q) k) (plain-no-mark l (ascii-plain l (j .letter)))))
+    (λ l m′ p d. let q = rw p at e in absurd (clash (rw (head q) k) (d .first)))
 
 -- one character back: it stays, or is the whole of a letter and a mark, or joins a mark of the text
 back :
     (c : ℕ) (cs os : List ℕ)
-    → Composes (parts pairs c ++ decomposed cs) os
+    → Composes (parts decompositions c ++ decomposed cs) os
     → ((rest : List ℕ) → Composes (decomposed cs) rest → Composes cs rest)
     → ((m w : ℕ) (ds rest : List ℕ)
     → decomposed cs ≡ m ∷ ds
@@ -77,12 +78,14 @@ back c cs os h again over =
     starts (Composes (c ∷ cs) os) (rw p at h)
     (λ rest e q g. rw e (stay q (again rest g)))
     (λ m w ds rest e q j n g. rw q (over m w ds rest e j n g)))
-    (λ l m p jt.
+    (λ l m p d.
     starts (Composes (c ∷ cs) os) (rw p at h)
-    (λ rest e q g. absurd (no-mark-first (jt .mark) g))
+    (λ rest e q g. absurd (plain-first (d .second) g))
     (λ m′ w ds rest e q j n g.
-    let whole : w ≡ c = sym j ∙ ap (joined l) (sym (head e)) ∙ jt .same in
-    rw (q, whole) (stay (latin-plain c (jt .whole)) (again rest (rw (tail e) g)))))
+    let jt = joint l m′ (rw j n) in
+    let whole : c ≡ w = sym (d .made) ∙ ap (composite l) (head e) ∙ jt .made ∙ j in
+    let p′ : plain c ≡ true = rw whole (whole-plain l m′ w j n) in
+    rw (q, ← whole) (stay p′ (again rest (rw (tail e) g)))))
 
 pub composes-decomposed : (cs : List ℕ) {os : List ℕ} → Composes (decomposed cs) os → Composes cs os
 unfolding decomposed

@@ -23,8 +23,8 @@ module _ (a b : ℕ) (from : 128 ≤ b) (to : b ≤ 191) where
   high-passes : (a ≡ 237 → b ≤ 159) → (a ≡ 244 → b ≤ 143) → b ≤ high a
   unfolding high
   high-passes after-ED after-F4 =
-      either (eqb a 237) (λ e. rw e (after-ED (eqb-true a 237 e))) λ e.
-      rw e (either (eqb a 244) (λ q. rw q (after-F4 (eqb-true a 244 q))) λ q. rw q to)
+      either (eqb a 237) (λ e. rw e (omega (arith, after-ED (eqb-true a 237 e)))) λ e.
+      rw e (either (eqb a 244) (λ q. rw q (omega (arith, after-F4 (eqb-true a 244 q)))) λ q. rw q to)
 
 follows : (c : ℕ) → tail (follow c) ≡ true
 unfolding tail

@@ -1,10 +1,11 @@
 pub mod Utf8
 pub mod Repertoire
 pub mod Pairs
-pub mod Others
+pub mod Decompositions
 pub mod Nfc
 pub mod Joining
 pub mod Tests
+pub mod Cons
 pub mod Bounds
 pub mod Fronts
 pub mod Sequences
@@ -17,4 +18,6 @@ pub mod Decomposed
 pub mod Ordered
 pub mod Composing
 pub mod NfcTheorem
-pub mod Vectors
+pub mod Utf8Vectors
+pub mod NfcVectors
+pub mod Vector

@@ -9,8 +9,8 @@ use borrow.Author.Tests.{eqb-true, not-true}
 use Rattle.unicode.specs.Tests.{and-left, and-right, either, clash, refuted}
 use Rattle.unicode.specs.Utf8.{within}
 use Rattle.unicode.specs.Repertoire.{member, marks, isMark, plain}
-use Rattle.unicode.specs.Pairs.{pairs}
-use Rattle.unicode.specs.Nfc.{classOf}
+use Rattle.unicode.specs.Decompositions.{Class, class, decompositions, classes}
+use Rattle.unicode.specs.Nfc.{classIn, classOf}
 use Rattle.unicode.specs.Bounds.{at-least, at-most, inside}
 use Rattle.unicode.specs.Rows.{each, noWhole}
 
@@ -27,12 +27,12 @@ at-member f (x ∷ xs) e c h =
     (λ hit. rw (eqb-true x c hit) at (and-left (f x) (every f xs) e))
     (λ miss. at-member f xs (and-right (f x) (every f xs) e) c (rw miss at h))
 
--- a mark is at U+0300 to U+033F, not plain, and no row's whole
+-- a mark is at U+0300 to U+033F, not plain, and has no decomposition
 markRule : ℕ → Bool
-markRule m = within 768 831 m && (not (plain m) && noWhole m)
+markRule m = within 0x300 0x33F m && (not (plain m) && noWhole m)
 
 marks-ruled : every markRule marks ≡ true
-unfolding every each pairs within plain marks markRule
+unfolding every each decompositions within plain marks markRule
 marks-ruled = refl
 
 module _ (m : ℕ) (is : isMark m ≡ true) where
@@ -40,13 +40,13 @@ module _ (m : ℕ) (is : isMark m ≡ true) where
   unfolding isMark
   ruled = at-member markRule marks marks-ruled m is
 
-  pub mark-within : within 768 831 m ≡ true
+  pub mark-within : within 0x300 0x33F m ≡ true
   unfolding markRule
-  mark-within = and-left (within 768 831 m) _ ruled
+  mark-within = and-left (within 0x300 0x33F m) _ ruled
 
   rest : (not (plain m) && noWhole m) ≡ true
   unfolding markRule
-  rest = and-right (within 768 831 m) _ ruled
+  rest = and-right (within 0x300 0x33F m) _ ruled
 
   pub mark-not-plain : plain m ≡ false
   mark-not-plain = not-true (plain m) (and-left (not (plain m)) _ rest)
@@ -57,25 +57,38 @@ module _ (m : ℕ) (is : isMark m ≡ true) where
 pub plain-no-mark : (c : ℕ) → plain c ≡ true → isMark c ≡ false
 plain-no-mark c e = refuted (isMark c) (λ is. clash e (mark-not-plain c is))
 
-pub plain-small : (c : ℕ) → plain c ≡ true → c < 256
+pub plain-small : (c : ℕ) → plain c ≡ true → c < 0x100
 unfolding plain
 plain-small c e =
-    either (within 32 126 c) (λ p. omega (arith, at-most 32 126 c p)) λ p. omega (arith, at-most 160 255 c (rw p at e))
+    either (within 0x20 0x7E c) (λ p. omega (arith, at-most 0x20 0x7E c p)) λ p. omega (arith, at-most 0xA0 0xFF c (rw p at e))
 
--- a character that is no mark has class 0
-pub no-mark-class : (c : ℕ) → isMark c ≡ false → classOf c ≡ 0
+-- a plain character has class 0: the data lists none
+unfoldable eachClass : (ℕ → Bool) → List Class → Bool
+eachClass f [] = true
+eachClass f (class m k ∷ ks) = f m && eachClass f ks
+
+classes-ruled : eachClass (λ m. not (plain m)) classes ≡ true
+unfolding eachClass classes within plain
+classes-ruled = refl
+
+unlisted : (c : ℕ) → plain c ≡ true → (ks : List Class) → eachClass (λ m. not (plain m)) ks ≡ true → classIn ks c ≡ 0
+unfolding eachClass classIn
+unlisted c p [] e = refl
+unlisted c p (class m k ∷ ks) e =
+    either (eqb m c)
+    (λ hit. absurd (clash p (rw (eqb-true m c hit) at (not-true (plain m) (and-left (not (plain m)) _ e)))))
+    (λ miss. rw miss (unlisted c p ks (and-right (not (plain m)) _ e)))
+
+pub plain-class : (c : ℕ) → plain c ≡ true → classOf c ≡ 0
 unfolding classOf
-no-mark-class c e = rw e (either (eqb c 807) (λ p. absurd (clash (cedilla c (eqb-true c 807 p)) e)) λ p. rw p)
-  where
-    cedilla : (c : ℕ) → c ≡ 807 → isMark c ≡ true
-    cedilla c q = rw q (unfold member marks isMark in refl)
+plain-class c p = unlisted c p classes classes-ruled
 
-pub ascii-plain : (c : ℕ) → within 65 122 c ≡ true → plain c ≡ true
+pub ascii-plain : (c : ℕ) → within 0x41 0x7A c ≡ true → plain c ≡ true
 unfolding plain
-ascii-plain c e = rw (inside 32 126 c (omega (arith, at-least 65 122 c e)) (omega (arith, at-most 65 122 c e)))
+ascii-plain c e = rw (inside 0x20 0x7E c (omega (arith, at-least 0x41 0x7A c e)) (omega (arith, at-most 0x41 0x7A c e)))
 
-pub latin-plain : (c : ℕ) → within 192 255 c ≡ true → plain c ≡ true
+pub latin-plain : (c : ℕ) → within 0xC0 0xFF c ≡ true → plain c ≡ true
 unfolding plain
 latin-plain c e =
-    let p = inside 160 255 c (omega (arith, at-least 192 255 c e)) (at-most 192 255 c e) in
-    either (within 32 126 c) (λ q. rw q) λ q. rw (q, p)
+    let p = inside 0xA0 0xFF c (omega (arith, at-least 0xC0 0xFF c e)) (at-most 0xC0 0xFF c e) in
+    either (within 0x20 0x7E c) (λ q. rw q) λ q. rw (q, p)

@@ -1,25 +1,28 @@
 -- Normalization Form C as the Unicode Standard defines it (chapter 3, sections 3.6, 3.7 and 3.11), for texts of the repertoire.
--- It is made from data alone and knows nothing of the composer.
+-- It is made from Unicode's data alone and knows nothing of the composer, nor of its table of pairs.
 use Prim.Native.Nat.{ℕ}
 use mathlib.Core.Bool.{Bool, false, cond, not, _&&_, _||_}
 use mathlib.Core.List.{List, [], _∷_, _++_}
 use lib.Dec.{ltb, leb, eqb}
-use Rattle.unicode.specs.Repertoire.{isMark}
-use Rattle.unicode.specs.Pairs.{Pair, pair, found, pairs}
-use Rattle.unicode.specs.Others.{others}
+use Rattle.unicode.specs.Pairs.{Pair, pair, found}
+use Rattle.unicode.specs.Decompositions.{Class, class, decompositions, classes}
 
--- D104: Canonical_Combining_Class, from the Unicode data: 202 for U+0327, 230 for the other six marks, 0 for all else
+-- D104: Canonical_Combining_Class; 0 for all that the data does not list
+unfoldable pub classIn : List Class → ℕ → ℕ
+classIn [] c = 0
+classIn (class character number ∷ ks) c = cond (eqb character c) number (classIn ks c)
+
 unfoldable pub classOf : ℕ → ℕ
-classOf c = cond (eqb c 807) 202 (cond (isMark c) 230 0)
+classOf c = classIn classes c
 
--- D68: a character's canonical decomposition; no letter of a pair decomposes further
+-- D68: a character's canonical decomposition; in the repertoire no part decomposes further
 unfoldable pub parts : List Pair → ℕ → List ℕ
 parts [] c = c ∷ []
 parts (pair letter mark whole ∷ ps) c = cond (eqb whole c) (letter ∷ mark ∷ []) (parts ps c)
 
 unfoldable pub decomposed : List ℕ → List ℕ
 decomposed [] = []
-decomposed (c ∷ cs) = parts pairs c ++ decomposed cs
+decomposed (c ∷ cs) = parts decompositions c ++ decomposed cs
 
 -- D108: a pair with ccc(A) > ccc(B) > 0
 unfoldable pub reorderable : ℕ → ℕ → Bool
@@ -39,9 +42,9 @@ unfoldable pub blocked : List ℕ → ℕ → Bool
 blocked [] c = false
 blocked (b ∷ bs) c = eqb (classOf b) 0 || (leb (classOf c) (classOf b) || blocked bs c)
 
--- D114: the primary composite of two characters, or 0
+-- D114: the primary composite of two characters, or 0; of the decompositions of Latin letters none is excluded
 unfoldable pub composite : ℕ → ℕ → ℕ
-composite l c = found (pairs ++ others) l c
+composite l c = found decompositions l c
 
 -- D117, the Canonical Composition Algorithm: l is the last starter and k what has stayed after it
 unfoldable pub composing : ℕ → List ℕ → List ℕ → List ℕ

@@ -11,15 +11,22 @@ member (x ∷ xs) c = eqb x c || member xs c
 
 -- 'seven marks U+0300, 0301, 0302, 0303, 0308, 030A, 0327'
 unfoldable pub marks : List ℕ
-marks = 768 ∷ 769 ∷ 770 ∷ 771 ∷ 776 ∷ 778 ∷ 807 ∷ []
+marks = 0x300 ∷ 0x301 ∷ 0x302 ∷ 0x303 ∷ 0x308 ∷ 0x30A ∷ 0x327 ∷ []
 
 unfoldable pub isMark : ℕ → Bool
 isMark c = member marks c
 
 -- in the repertoire, and no mark: 'U+0020 to U+007E, U+00A0 to U+00FF'
 unfoldable pub plain : ℕ → Bool
-plain c = within 32 126 c || within 160 255 c
+plain c = within 0x20 0x7E c || within 0xA0 0xFF c
 
 unfoldable pub allPlain : List ℕ → Bool
 allPlain [] = true
 allPlain (c ∷ cs) = plain c && allPlain cs
+
+unfoldable pub inRepertoire : ℕ → Bool
+inRepertoire c = plain c || isMark c
+
+unfoldable pub allIn : List ℕ → Bool
+allIn [] = true
+allIn (c ∷ cs) = inRepertoire c && allIn cs
