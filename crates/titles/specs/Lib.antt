@@ -4,4 +4,6 @@ pub mod Scan
 pub mod Pieces
 pub mod Outcomes
 pub mod Titles
+pub mod Goes
+pub mod GoesLaws
 pub mod Cases
