@@ -2,7 +2,6 @@
 use both_slips::answers::sided;
 use join_tables::areas::FullPair;
 use join_tables::areas::SmallPair;
-use join_tables::merge;
 use slips::answer;
 use slips::answer::Answer;
 use slips::check;

@@ -144,7 +144,7 @@ fn large(
 }
 
 // Hands out the slip of the rows that the plan names, unless it is too large.
-pub(crate) fn hand_out(
+pub fn hand_out(
     plan: &[usize],
     types: &[u16],
     counts: &[u16],

@@ -1,4 +1,3 @@
-// The join of two tables that stand end to end in one set of columns: the clash, or the joined tree's slip.
+// The joined table that a plan names, handed out as a slip.
 pub mod areas;
-mod gathered;
-pub mod merge;
+pub mod gathered;

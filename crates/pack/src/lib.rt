@@ -11,7 +11,6 @@ use tables::limits::Slip;
 use tables::refusals::Refusal;
 ghost use mathlib.Core.Path.{_≡_};
 ghost use Prim.Native.Nat.{_≤_};
-ghost use lib.ListN.{length};
 ghost use Rattle.sha2.specs.Sha256 as Sha256;
 ghost use Rattle.titles.specs.Compose.{composedText};
 ghost use Rattle.trees.specs.Rules.{maxBytes};

@@ -1,5 +1,4 @@
 use borrow.Author.Tests.{le-leb, lt-leb}
-use borrow.Author.Needs.{needs}
 use Rattle.join.proofs.is_small.Statement.{statement}
 use Rattle.join.proofs.is_small.Tie as tie
 

@@ -11,7 +11,7 @@ use Rattle.tables.specs.Records.{TreeTable}
 use Rattle.codec.specs.Writing.{slipOf}
 use Rattle.codec.specs.MeasureLaws.{slip-bytes-measured}
 use Rattle.send.specs.SentLaws.{tree-sendable}
-use Rattle.join_tables.proofs.Merging.{fitted-long, fitted-sent}
+use Rattle.join_tables.proofs.Delivering.{fitted-long, fitted-sent}
 use borrow.Author.Needs.{needs}
 use Rattle.join_tables.proofs.gathered.deliver.Statement.{statement}
 use Rattle.join_tables.proofs.gathered.deliver.Tie as tie

@@ -3,7 +3,7 @@ use mathlib.Core.Path.{sym}
 use native.Mathlib.Omega.{arith}
 use lib.ListN.{length}
 use lib.Seq.{length-take-le}
-use Rattle.join_tables.proofs.Merging.{gathered-as}
+use Rattle.join_tables.proofs.Delivering.{gathered-as}
 use borrow.Author.Needs.{needs}
 use Rattle.join_tables.proofs.gathered.gather_in.Statement.{statement}
 use Rattle.join_tables.proofs.gathered.gather_in.Tie as tie

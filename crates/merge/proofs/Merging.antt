@@ -1,4 +1,4 @@
--- The plan of the join, gathered and handed out.
+-- The plan of the join, planned and handed out.
 use Prim.Native.Nat.{ℕ, _+_, _-_, _*_, _≤_, _<_}
 use mathlib.Core.Bool.{true, false, true≢false}
 use mathlib.Core.List.{List, _++_, map}
@@ -8,49 +8,27 @@ use borrow.Author.Tests.{lt-ltb, le-ltb}
 use lib.ListN.{length, take, drop, length-drop}
 use lib.Seq.{take-all, length-take-le}
 use Rattle.trees.specs.Nodes.{Node, size, label}
-use Rattle.trees.specs.Rules.{maxNodes, maxBytes}
-use Rattle.trees.specs.Rows.{rows}
+use Rattle.trees.specs.Rules.{maxNodes}
 use Rattle.trees.specs.Join.{Joint, ok, clash, join, Alike}
 use Rattle.trees.specs.JoinLaws.{join-ok}
 use Rattle.trees.specs.OrderLaws.{le-label}
 use Rattle.tables.specs.Records.{TreeTable}
 use Rattle.tables.specs.Refusals.{joinTooLarge}
-use Rattle.codec.specs.Writing.{slipOf}
 use Rattle.sha2.specs.Sha256 as Sha256
 use Rattle.join_rows.specs.declared.plan.Planned.{Planned}
-use Rattle.columns.specs.declared.gather.Gathered.{Gathered}
 use Rattle.join_rows.specs.Lists.{Names, names-length}
 use Rattle.join_rows.specs.Faces.{noFace, faces}
 use Rattle.join_rows.specs.FacesLaws.{length-faces}
 use Rattle.columns.specs.Columns.{Surveyed}
 use Rattle.join_rows.specs.Plans.{Two, PlannedAs}
-use Rattle.columns.specs.Gathers.{cellOf, valuesOf, Gathers}
+use Rattle.columns.specs.Gathers.{cellOf, valuesOf}
 use Rattle.join_rows.specs.JoinTable.{planned-table, join-room, join-gathering}
 use Rattle.join_rows.specs.TwoLaws.{first-low, values-room}
 use Rattle.slips.specs.declared.answer.Answer.{Answer}
 use Rattle.slips.specs.Answers.{refused}
 use Rattle.slips.specs.Output.{Packs}
-use Rattle.send.specs.Sent.{sentTree}
 use Rattle.join_tables.specs.Joined.{clashed, joinedOf}
 use Rattle.join_tables.specs.Contracts.{fitted, GatherAsks, MergeAsks}
-
--- "15, 11", by the size
-module _ (H : List ℕ → List ℕ) (n : Node) (out : List ℕ) where
-  pub fitted-long : maxBytes < length (slipOf (rows n)) → {r : Answer} → r ≡ refused joinTooLarge 0 → Packs (fitted H n out) r out
-  unfolding fitted
-  fitted-long h e = rw (lt-ltb maxBytes (length (slipOf (rows n))) h) (record { answered = e; written = refl })
-
-  pub fitted-sent : length (slipOf (rows n)) ≤ maxBytes → {r : Answer} {left : List ℕ} → Packs (sentTree H n out) r left → Packs (fitted H n out) r left
-  unfolding fitted
-  fitted-sent h p = rw (le-ltb maxBytes (length (slipOf (rows n))) h) p
-
--- the columns gathered are what the plan names
-pub gathered-as :
-    {plan types counts lengths values offsets outTypes outCounts outLengths outValues : List ℕ} {g : Gathered} {n : Node}
-    → Gathers plan types counts lengths values offsets outTypes outCounts outLengths outValues g
-    → TreeTable n (map (cellOf types) plan) (map (cellOf counts) plan) (map (cellOf lengths) plan) (valuesOf plan lengths values offsets)
-    → TreeTable n (take (g .rows) outTypes) (take (g .rows) outCounts) (take (g .rows) outLengths) (take (g .used) outValues)
-gathered-as s t = rw (s .types-are, s .counts-are, s .lengths-are, s .values-are) t
 
 -- the cells that name the join's rows
 abbrev pub named : List ℕ → Planned → List ℕ

@@ -7,10 +7,10 @@ use Rattle.trees.specs.Join.{join}
 use Rattle.sha2.specs.Sha256 as Sha256
 use Rattle.join_rows.specs.Plans.{Two}
 use Rattle.join_rows.specs.TwoLaws.{counts-long, lengths-long}
-use Rattle.join_tables.proofs.Merging.{Unclashed, unclashed, clash-joined, plan-long, plan-table, plan-asks, large-joined, small-joined, two-few}
+use Rattle.merge.proofs.Merging.{Unclashed, unclashed, clash-joined, plan-long, plan-table, plan-asks, large-joined, small-joined, two-few}
 use borrow.Author.Needs.{needs}
-use Rattle.join_tables.proofs.merge.merge_in.Statement.{statement}
-use Rattle.join_tables.proofs.merge.merge_in.Tie as tie
+use Rattle.merge.proofs.merge_in.Statement.{statement}
+use Rattle.merge.proofs.merge_in.Tie as tie
 
 survey-requires : tie.Need-survey-requires
 survey-requires c κs =

@@ -4,8 +4,8 @@ use native.Mathlib.Omega.{arith}
 use lib.ListN.{length-replicate}
 use lib.Seq.{length-take-le}
 use borrow.Author.Needs.{needs}
-use Rattle.join_tables.proofs.merge.small.Statement.{statement}
-use Rattle.join_tables.proofs.merge.small.Tie as tie
+use Rattle.merge.proofs.small.Statement.{statement}
+use Rattle.merge.proofs.small.Tie as tie
 
 front-starts : tie.Need-array-borrow-prefix-starts
 front-starts c = omega (arith, c .before .before .before .before .before .before .pre .1)

@@ -3,10 +3,10 @@ use mathlib.Core.Path.{sym}
 use native.Mathlib.Omega.{arith}
 use lib.ListN.{length-replicate}
 use lib.Seq.{length-take-le}
-use Rattle.join_tables.proofs.Merging.{two-few}
+use Rattle.merge.proofs.Merging.{two-few}
 use borrow.Author.Needs.{needs}
-use Rattle.join_tables.proofs.merge.large.Statement.{statement}
-use Rattle.join_tables.proofs.merge.large.Tie as tie
+use Rattle.merge.proofs.large.Statement.{statement}
+use Rattle.merge.proofs.large.Tie as tie
 
 front-starts : tie.Need-array-borrow-prefix-starts
 front-starts c = omega (arith, two-few (c .before .before .before .before .before .before .pre .two))

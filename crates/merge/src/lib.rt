@@ -1,9 +1,9 @@
 // The join of the two trees that the columns hold.
-use crate::areas::FullPair;
-use crate::areas::SmallPair;
-use crate::gathered;
 use columns::survey;
 use join_rows::plan;
+use join_tables::areas::FullPair;
+use join_tables::areas::SmallPair;
+use join_tables::gathered;
 use slips::answer;
 use slips::answer::Answer;
 use tables::limits::Slip;
