@@ -3,9 +3,7 @@ use crate::lines;
 use crate::numbers;
 use crate::numbers::Number;
 use libc::STDOUT_FILENO;
-use sha2::digest;
-use sha2::digest::Digest;
-ghost use Prim.Native.Nat.{_+_, _-_, _^_, _≤_, _<_, max};
+ghost use Prim.Native.Nat.{_-_, _^_, _≤_, _<_, max};
 ghost use mathlib.Core.Path.{_≡_};
 ghost use lib.ListN.{length};
 
@@ -113,15 +111,8 @@ fn hashes_agree(message: &[u8], md: &[u8]) -> bool
     requires { ⌜ (length (now message) < 2 ^ 61) × (length (now md) ≡ 64) ⌝ }
 {
     let cut = message.len() / 3;
-    if !numbers::spells(md, digest::label(message)) {
+    if !numbers::spells(md, labels::label(message)) {
         return false;
     }
-    numbers::spells(md, of_parts(&message[..cut], &message[cut..]))
-}
-
-// The digest that takes a message in two parts.
-fn of_parts(first: &[u8], second: &[u8]) -> [u8; 32]
-    requires { ⌜ length (now first) + length (now second) < 2 ^ 61 ⌝ }
-{
-    Digest::new().absorb(first).absorb(second).finish()
+    numbers::spells(md, labels::of_parts(&message[..cut], &message[cut..]))
 }

@@ -2,8 +2,6 @@
 // significant first; the rest is cut into texts of 4,096 bytes.
 use libc::STDIN_FILENO;
 use libc::STDOUT_FILENO;
-use sha2::digest;
-use sha2::digest::Digest;
 ghost use Prim.Native.Nat.{_≤_, _<_, min};
 ghost use mathlib.Core.Path.{_≡_};
 ghost use lib.ListN.{length};
@@ -58,8 +56,8 @@ fn size(left: usize) -> usize
 fn joined(last: [u8; 32], text: &[u8]) -> [u8; 32]
     requires { ⌜ length (now text) ≤ 4096 ⌝ }
 {
-    let own = digest::label(text);
-    Digest::new().absorb(&last).absorb(&own).finish()
+    let own = labels::label(text);
+    labels::of_parts(&last, &own)
 }
 
 fn print(label: [u8; 32]) {

@@ -1,5 +1,4 @@
 // The running digest: one small record that grows with each part of a text.
-use crate::lent;
 use crate::octets;
 use crate::padding;
 ghost use mathlib.Core.Path.{_≡_};
@@ -8,7 +7,6 @@ ghost use Prim.Native.Nat.{_+_, _^_, _≤_, _<_};
 ghost use lib.ListN.{length};
 ghost use lib.Seq.{paste};
 ghost use Rattle.sha2.specs.Running.{Holds, Grows, Ends};
-ghost use Rattle.sha2.specs.Sha256 as Sha256;
 
 // The hash value after the text's whole blocks, a tail that begins with what is left of it, and its length.
 pub struct Digest {
@@ -88,12 +86,4 @@ impl Digest {
         let h = compression::chain(state, &area, n);
         octets::spread(h)
     }
-}
-
-// The SHA-256 of a text that is there as a whole.
-pub fn label(text: &[u8]) -> [u8; 32]
-    requires { ⌜ length (now text) < 2 ^ 61 ⌝ }
-    ensures { λ r. ⌜ r ≡ Sha256.label (now (text .entry)) ⌝ }
-{
-    lent::grown(Digest::new(), text).finish()
 }

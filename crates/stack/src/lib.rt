@@ -72,7 +72,7 @@ fn parent_of(s: Stack, count: usize, heights: &[u16], sizes: &[u16], work: &[u8]
     let height = faults::highest(&heights[base..depth]) + 1;
     let long = form::sum(&sizes[base..depth]) + HEAD * count;
     let start = top - long;
-    let label = sha2::digest::label(&work[start..top]);
+    let label = labels::label(&work[start..top]);
     Parent {
         height,
         long,

@@ -1,8 +1,8 @@
 use mathlib.Core.List.{[]}
 use native.Mathlib.Omega.{arith}
 use borrow.Author.Needs.{needs}
-use Rattle.sha2.proofs.digest.label.Statement.{statement}
-use Rattle.sha2.proofs.digest.label.Tie as tie
+use Rattle.labels.proofs.label.Statement.{statement}
+use Rattle.labels.proofs.label.Tie as tie
 
 finish-requires : tie.Need-finish-requires
 finish-requires c κs =

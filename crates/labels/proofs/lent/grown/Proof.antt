@@ -1,4 +1,4 @@
--- `sha2::lent::grown` meets its contract: a walk of its MIR, by hand. A local digest is lent to `put` for a lifetime that is made
+-- `labels::lent::grown` meets its contract: a walk of its MIR, by hand. A local digest is lent to `put` for a lifetime that is made
 -- for the call, and taken back at its last value. All that the walk knows of `put` is that it meets its contract.
 use mathlib.Core.Path.{refl}
 use Prim.Native.Nat.{ℕ, _+_, _<_, _^_}
@@ -41,18 +41,18 @@ use denote.Triple.Table.{entered, cited}
 use denote.Triple.Walked.{says, needs, Stays, stay-none, stay-none-slice, walkOf, goes-none, goes-none-slice, Walks, ends-at, walked, walk-meets}
 use denote.Exit.{yes}
 use borrow.Table.OneValue.{part-in, part-out}
 use Rattle.sha2.specs.Running.{Grows}
 use Rattle.sha2.specs.declared.digest.Digest.{Digest}
 use Rattle.sha2.proofs.digest.Digest as T
 use Rattle.sha2.proofs.digest.Digest.Laws as T′
-use Rattle.sha2.proofs.lent.put as put
-use Rattle.sha2.proofs.lent.put.Symbol as put-def
-use Rattle.sha2.proofs.lent.put.Symbol.{name as #put}
-use Rattle.sha2.proofs.lent.put.Met as put-thm
-use Rattle.sha2.proofs.lent.grown.Key.{name as #grown}
-use Rattle.sha2.proofs.lent.grown as grown
-use Rattle.sha2.proofs.lent.grown.Statement as stated
-use Rattle.sha2.proofs.lent.grown.Code as code
+use Rattle.labels.proofs.lent.put as put
+use Rattle.labels.proofs.lent.put.Symbol as put-def
+use Rattle.labels.proofs.lent.put.Symbol.{name as #put}
+use Rattle.labels.proofs.lent.put.Met as put-thm
+use Rattle.labels.proofs.lent.grown.Key.{name as #grown}
+use Rattle.labels.proofs.lent.grown as grown
+use Rattle.labels.proofs.lent.grown.Statement as stated
+use Rattle.labels.proofs.lent.grown.Code as code
 
 abbrev R : RattleType
 R = T.the-row
@@ -163,4 +163,4 @@ grown-spec 𝓤 H 𝓜 𝓖 𝓡 =
     entered 𝓤 H (tripleOf 𝓤 H (𝓖 .A) grown.signature (grown.spec 𝓤 H (𝓖 .A) (𝓜 .mem) (𝓡 .run)))
     (tables 𝓤 H 𝓜 𝓡 code.env .C) (tables 𝓤 H 𝓜 𝓡 code.env .Λ) #grown code.function (code.unfolded 𝓤 H 𝓜 𝓡)
     (grown-meets 𝓤 H (𝓖 .A) (givenOf 𝓤 H 𝓜 𝓖) (𝓜 .mem) (𝓡 .run) (tablesOf 𝓤 H 𝓜 (tables 𝓤 H 𝓜 𝓡 code.env))
-    (cited 𝓤 H (Put 𝓤 H (𝓖 .A) (𝓜 .mem) (𝓡 .run)) 𝓜 𝓡 code.env #put put-def.routine code.calls-sha2·lent·put (put-thm.met 𝓤 H 𝓜 𝓖 𝓡)))
+    (cited 𝓤 H (Put 𝓤 H (𝓖 .A) (𝓜 .mem) (𝓡 .run)) 𝓜 𝓡 code.env #put put-def.routine code.calls-labels·lent·put (put-thm.met 𝓤 H 𝓜 𝓖 𝓡)))

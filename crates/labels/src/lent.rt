@@ -1,9 +1,9 @@
 // The running digest lent. Each function over a `&mut` to a struct is proved by hand, so there are two: `put`, and `grown`, which
 // lends and serves every other caller.
-use crate::digest::Digest;
+use sha2::digest::Digest;
 ghost use Prim.Native.Nat.{_+_, _^_, _<_};
 ghost use lib.ListN.{length};
 ghost use Rattle.sha2.specs.Running.{Grows};
 
 // The lent digest takes the part: `absorb`, and its answer stored.
 pub fn put(d: &mut Digest, part: &[u8])

@@ -1,4 +1,4 @@
--- `sha2::lent::put` meets its contract: a walk of its MIR, by hand. The borrow is opened, `absorb` is called on a copy of the
+-- `labels::lent::put` meets its contract: a walk of its MIR, by hand. The borrow is opened, `absorb` is called on a copy of the
 -- digest behind it, and the borrow is closed at the digest that `absorb` gives. The walk names no field of the digest.
 use mathlib.Core.Path.{_≡_, refl}
 use Prim.Native.Nat.{ℕ, _+_, _-_, _*_, _<_, _^_}
@@ -38,19 +38,19 @@ use denote.Triple.Spec.{Meets, tripleOf}
 use denote.Triple.Table.{entered, cited}
 use denote.Triple.Walked.{says, needs, Stays, stay-ref, stay-none-slice, walkOf, goes-ref, goes-none-slice, Walks, ends-at, walked, walk-meets}
 use denote.Exit.{yes}
 use Rattle.sha2.specs.Running.{Grows}
 use Rattle.sha2.specs.declared.digest.Digest.{Digest}
 use Rattle.sha2.proofs.digest.Digest as T
 use Rattle.sha2.proofs.digest.Digest.Laws as T′
 use Rattle.sha2.proofs.digest.Digest.absorb as absorb
 use Rattle.sha2.proofs.digest.Digest.absorb.Symbol as absorb-def
 use Rattle.sha2.proofs.digest.Digest.absorb.Symbol.{name as #absorb}
 use Rattle.sha2.proofs.digest.Digest.absorb.Met as absorb-thm
-use Rattle.sha2.proofs.lent.put.Key.{name as #put}
-use Rattle.sha2.proofs.lent.put as put
-use Rattle.sha2.proofs.lent.put.Statement as stated
-use Rattle.sha2.proofs.lent.put.Code as code
-use Rattle.sha2.proofs.lent.put.Code.Mir.{s-3 as the-store}
+use Rattle.labels.proofs.lent.put.Key.{name as #put}
+use Rattle.labels.proofs.lent.put as put
+use Rattle.labels.proofs.lent.put.Statement as stated
+use Rattle.labels.proofs.lent.put.Code as code
+use Rattle.labels.proofs.lent.put.Code.Mir.{s-3 as the-store}
 
 abbrev R : RattleType
 R = T.the-row
