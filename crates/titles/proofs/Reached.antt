@@ -1,7 +1,7 @@
 -- Where a scan of a title stands: what its answer is from here on, and what it has written.
 use mathlib.Core.Path.{_≡_, refl, sym, _∙_, ap}
 use mathlib.Core.Bool.{true, false}
-use mathlib.Core.List.{List, [], _++_, append-assoc, append-nil}
+use mathlib.Core.List.{List, [], _∷_, _++_, append-assoc, append-nil}
 use Prim.Native.Nat.{ℕ, _+_, _≤_, _<_}
 use native.Mathlib.Omega.{arith}
 use lib.Dec.{eqb}
@@ -9,8 +9,8 @@ use lib.ListN.{length, take, drop, drop-of-length-le}
 use borrow.Author.Tests.{ne-eqb}
 use Rattle.unicode.specs.Utf8.{width, encode, encodes, front, decode}
 use Rattle.unicode.specs.Repertoire.{plain}
-use Rattle.unicode.specs.Joining.{joined, pieces, outs, composed}
-use Rattle.titles.specs.Compose.{text, fault, refusal, acceptance, judged}
+use Rattle.unicode.specs.Joining.{joined, bad, pieces, outs, composed}
+use Rattle.titles.specs.Compose.{text, acceptance, judged}
 use Rattle.unicode.specs.Bounds.{at-least, at-most, width-2}
 use Rattle.unicode.specs.Decoding.{decode-end}
 use Rattle.unicode.specs.Rows.{joint}
@@ -35,8 +35,7 @@ whole-small l m w ew some =
     (omega (arith, ew), rw ew (width-2 (joined l m) (omega arith) (omega arith)))
 
 module _ (s : List ℕ) (at n c : ℕ) (room : List ℕ) (r : Reached s at n room) (more : at < length s) (is : c ≡ front (drop at s)) where
-  pub reached-bad : plain c ≡ false → refusal (fault c) at ≡ judged 0 0 (pieces (decode s))
-  unfolding judged
+  pub reached-bad : plain c ≡ false → judged at n (bad c ∷ []) ≡ judged 0 0 (pieces (decode s))
   reached-bad e = sym (r .answer ∙ rw (bad-at s at c more is e))
 
   module _ (e : plain c ≡ true) (k : ℕ) (room′ : List ℕ) where

@@ -10,6 +10,7 @@ use Rattle.unicode.specs.Utf8.{width}
 use Rattle.unicode.specs.Repertoire.{plain}
 use Rattle.unicode.specs.Marks.{plain-small}
 use Rattle.unicode.specs.Decoding.{width-some}
+use Rattle.titles.specs.Compose.{judged}
 use Rattle.titles.specs.Outcomes.{fault-some}
 use Rattle.titles.specs.Pieces.{next-fits}
 use Rattle.titles.proofs.Reached.{Reached, reached-start, reached-bad, reached-one, reached-two, two-fits, reached-end, reached-all, whole-small}
@@ -27,6 +28,7 @@ loop-holds : tie.Need-loop-holds Inv-loop μ-loop
 loop-holds c = (refl, reached-start _ _)
 
 returns : tie.Need-returns Inv-loop μ-loop
+unfolding judged
 returns c =
     let l = c .before .before .before .before .before .before .loop in
     let f = c .before .before .before .before .first in
