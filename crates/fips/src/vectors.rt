@@ -1,118 +1,136 @@
-// A vector is three lines: `Len = ` and the message's bits, `Msg = ` and its bytes, `MD = ` and its digest.
-use crate::lines;
-use crate::numbers;
-use crate::numbers::Number;
+// What the lines of a file say. A vector of a message is `Len = ` and its bits, `Msg = ` and its bytes, `MD = ` and its digest. One
+// of the Monte Carlo test is `COUNT = ` and its number, and `MD = ` and the digest that the last one, or `Seed = `, leads to.
+use crate::digits;
+use crate::digits::NONE;
+use crate::messages;
 use libc::STDOUT_FILENO;
-ghost use Prim.Native.Nat.{_-_, _^_, _≤_, _<_, max};
-ghost use mathlib.Core.Path.{_≡_};
-ghost use lib.ListN.{length};
+use std::num::wrapping_add_usize;
 
-// The longest message that is read, in bytes.
-const ROOM: usize = 1024;
-
-pub struct Tally {
+// The vectors begun, and how many of them agree; the bits of the message that is awaited; whether a digest was made for the vector,
+// and the last one.
+pub struct Told {
     pub vectors: usize,
     pub agree: usize,
+    pub bits: usize,
+    pub made: bool,
+    pub label: [u8; 32],
 }
 
-// Every line begins a vector but a blank one, a comment and a heading: so a broken vector counts as one that differs.
-pub fn compared(text: &[u8]) -> Tally {
-    let mut vectors: usize = 0;
-    let mut agree: usize = 0;
-    let mut at = 0;
-    while at < text.len() {
-        let from = &text[at..];
-        if is_aside(text[at]) {
-            at = text.len() - lines::rest(from).len();
-        } else {
-            vectors += 1;
-            agree += judged(from);
-            at = text.len() - after(from).len();
+impl Told {
+    pub fn new() -> Told {
+        Told {
+            vectors: 0,
+            agree: 0,
+            bits: NONE,
+            made: false,
+            label: [0u8; 32],
         }
     }
-    Tally { vectors, agree }
-}
 
-// Whether a line that begins so is blank, a comment or a heading.
-fn is_aside(b: u8) -> bool {
-    match b {
-        b'\r' | b'\n' | b'#' | b'[' => true,
-        _ => false,
+    // A vector begins.
+    fn begun(self, bits: usize, made: bool, label: [u8; 32]) -> Told {
+        Told {
+            vectors: wrapping_add_usize(self.vectors, 1),
+            agree: self.agree,
+            bits,
+            made,
+            label,
+        }
+    }
+
+    // It goes on, or ends with so many that agree.
+    fn with(self, agree: usize, made: bool, label: [u8; 32]) -> Told {
+        Told {
+            vectors: self.vectors,
+            agree,
+            bits: NONE,
+            made,
+            label,
+        }
     }
 }
 
-// The text after its first vector.
-fn after(text: &[u8]) -> &[u8]
-    ensures { λ r. ⌜ length (now r) ≤ length (now (text .entry)) - 1 ⌝ }
-{
-    lines::rest(lines::rest(lines::rest(text)))
+// The text of a line, with or without its carriage return. All but a blank one, a comment and a heading belong to a vector.
+pub fn taken(t: Told, line: usize, whole: &[u8]) -> Told {
+    let text = bare(whole);
+    if text.len() == 0 {
+        return t;
+    }
+    match text[0] {
+        b'#' | b'[' => t,
+        b'L' => measured(t, digits::value(text, b"Len = ")),
+        b'C' => counted(t, digits::value(text, b"COUNT = ")),
+        b'S' => seeded(t, digits::value(text, b"Seed = ")),
+        _ => hashed(t, line, text),
+    }
 }
 
-// 1 where the text's first vector agrees; where it differs 0, and a line says so.
-fn judged(text: &[u8]) -> usize
-    ensures { λ r. ⌜ r ≤ 1 ⌝ }
-{
-    if agrees(text) {
-        return 1;
+fn bare(line: &[u8]) -> &[u8] {
+    let n = line.len();
+    if 0 < n {
+        let last = n - 1;
+        if line[last] == b'\r' {
+            return &line[..last];
+        }
     }
-    io::write_all(STDOUT_FILENO, b"differs at Len ");
-    io::write_all(STDOUT_FILENO, lines::value(text, b"Len = "));
+    line
+}
+
+fn measured(t: Told, len: &[u8]) -> Told {
+    let label = t.label;
+    t.begun(digits::decimal(len), false, label)
+}
+
+fn counted(t: Told, count: &[u8]) -> Told {
+    let label = t.label;
+    let next = messages::turned(label);
+    t.begun(NONE, 0 < count.len(), next)
+}
+
+fn seeded(t: Told, seed: &[u8]) -> Told {
+    let s = digits::spelt(seed);
+    let label = s.label;
+    t.with(t.agree, false, label)
+}
+
+// A message, or else the digest of a vector.
+fn hashed(t: Told, line: usize, text: &[u8]) -> Told {
+    let msg = digits::value(text, b"Msg = ");
+    if msg.len() == 0 {
+        return judged(t, line, digits::value(text, b"MD = "));
+    }
+    let h = messages::published(t.bits, msg);
+    let label = h.label;
+    t.with(t.agree, h.is, label)
+}
+
+fn judged(t: Told, line: usize, md: &[u8]) -> Told {
+    let label = t.label;
+    let agrees = verdict(t.made, same(md, label), line);
+    t.with(wrapping_add_usize(t.agree, agrees), false, label)
+}
+
+fn same(md: &[u8], label: [u8; 32]) -> bool {
+    let p = digits::spelt(md);
+    let theirs = p.label;
+    p.is && check::same(&theirs, &label)
+}
+
+// 1 where a digest was made and is the same; 0 where not, and a line says so.
+fn verdict(made: bool, same: bool, line: usize) -> usize {
+    if !made {
+        say(b"nothing to compare at line ", line);
+        return 0;
+    }
+    if !same {
+        say(b"differs at line ", line);
+        return 0;
+    }
+    1
+}
+
+pub fn say(words: &[u8], line: usize) {
+    io::write_all(STDOUT_FILENO, words);
+    io::print_decimal(STDOUT_FILENO, line as u64);
     io::write_all(STDOUT_FILENO, b"\n");
-    0
-}
-
-// Whether the text's first vector is whole and publishes the digest that we make.
-fn agrees(text: &[u8]) -> bool {
-    let second = lines::rest(text);
-    let third = lines::rest(second);
-    let md = lines::value(third, b"MD = ");
-    if md.len() != 64 {
-        return false;
-    }
-    let Number::Is(bits) = numbers::decimal(lines::value(text, b"Len = ")) else {
-        return false;
-    };
-    if bits % 8 != 0 {
-        return false;
-    }
-    message_agrees(bits / 8, lines::value(second, b"Msg = "), md)
-}
-
-// The same for a message of n bytes.
-fn message_agrees(n: usize, msg: &[u8], md: &[u8]) -> bool
-    requires { ⌜ length (now md) ≡ 64 ⌝ }
-{
-    let count = published(n);
-    if ROOM < count {
-        return false;
-    }
-    if msg.len() % 2 != 0 {
-        return false;
-    }
-    if msg.len() / 2 != count {
-        return false;
-    }
-    let mut message = [0u8; ROOM];
-    if !numbers::decoded(msg, count, &mut message) {
-        return false;
-    }
-    hashes_agree(&message[..n], md)
-}
-
-// How many bytes are published for a message of n: for the empty one a single `00`.
-fn published(n: usize) -> usize
-    ensures { λ r. ⌜ r ≡ max n 1 ⌝ }
-{
-    if n == 0 { 1 } else { n }
-}
-
-// The message as a whole, and cut in two at a third of its length.
-fn hashes_agree(message: &[u8], md: &[u8]) -> bool
-    requires { ⌜ (length (now message) < 2 ^ 61) × (length (now md) ≡ 64) ⌝ }
-{
-    let cut = message.len() / 3;
-    if !numbers::spells(md, labels::label(message)) {
-        return false;
-    }
-    numbers::spells(md, labels::of_parts(&message[..cut], &message[cut..]))
 }

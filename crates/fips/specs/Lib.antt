@@ -1,0 +1,3 @@
+-- What the lines of a file of vectors say, and the Monte Carlo test.
+pub mod Digits
+pub mod Monte
