@@ -1,12 +1,12 @@
 -- Demand 3 on bytes, computed, under "a label of 32 copies of prelabel length modulo 256": two libraries that end with the same bytes, and two
 -- that are each shown two texts with one hash.
 use Prim.Native.Nat.{ℕ}
-use mathlib.Core.Bool.{Bool, false, true≢false}
+use mathlib.Core.Bool.{Bool, true, false, true≢false}
 use mathlib.Core.List.{List, [], _∷_}
 use mathlib.Core.Logic.{_⊎_, inl, inr}
 use mathlib.Core.Path.{_≡_, refl, sym, ap, _∙_}
 use native.Mathlib.Omega.{arith}
-use lib.ListN.{length, getD, replicate}
+use lib.ListN.{getD, replicate}
 use Rattle.bits.specs.Bits.{bitsIn, bitsOf, numOf, octets, packed}
 use Rattle.bits.specs.Lists.{Below, below-replicate}
 use Rattle.bits.specs.ByteLaws.{below-octets}
@@ -26,6 +26,12 @@ use Rattle.demands.specs.Demand3.{Reaches, demand-3, shown-14}
 -- the slip of n bytes that a number writes arrives, with room for 86
 abbrev arrives : ℕ → ℕ → Arrival
 arrives n v = record { slip = bytes n v; buffer = output 82; bytes = below-octets n _ }
+
+-- how a library with the root label l ends: what it holds, no 11 and no 15 on the way, and whether it ever answered 14
+pub record Ends (l : List ℕ) (xs : List Arrival) (held : List ℕ) (shown : Bool) : Type 0 where
+  pub holds : copy copies composedText l xs ≡ held
+  pub fitted : ever copies composedText misfits (start l) xs ≡ false
+  pub clashed : ever copies composedText clashes (start l) xs ≡ shown
 
 -- A root with two children, each a salt and a raw value: one slip shows the first child, one the second; beside them come bytes that are no
 -- slip, and a slip of another root.
@@ -55,17 +61,9 @@ abbrev two : List Arrival
 two = right ∷ stranger ∷ right ∷ left ∷ []
 
 -- both hold the slip that shows both children
-pub one-holds : copy copies composedText root one ≡ whole
+pub one-two : Ends root one whole false × Ends root two whole false
 unfolding bitsIn bitsOf numOf octets width within low high tail twoBytes threeBytes fourBytes character front chars decode member marks isMark plain allPlain composedText readValue readLeaf readRest readOne readAll paddingFits settled headerOf bodyOf checkOf leafBits entryBits allBits slipBits slipOf packed sent joinedOf joinOf
-one-holds = refl
-
-pub two-holds : copy copies composedText root two ≡ whole
-unfolding bitsIn bitsOf numOf octets width within low high tail twoBytes threeBytes fourBytes character front chars decode member marks isMark plain allPlain composedText readValue readLeaf readRest readOne readAll paddingFits settled headerOf bodyOf checkOf leafBits entryBits allBits slipBits slipOf packed sent joinedOf joinOf
-two-holds = refl
-
-fitted : (ever copies composedText misfits (start root) one ≡ false) × (ever copies composedText misfits (start root) two ≡ false) × (ever copies composedText clashes (start root) one ≡ false)
-unfolding bitsIn bitsOf numOf octets width within low high tail twoBytes threeBytes fourBytes character front chars decode member marks isMark plain allPlain composedText readValue readLeaf readRest readOne readAll paddingFits settled headerOf bodyOf checkOf leafBits entryBits allBits slipBits slipOf packed sent joinedOf joinOf
-fitted = (refl, refl, refl)
+one-two = (record { holds = refl; fitted = refl; clashed = refl }, record { holds = refl; fitted = refl; clashed = refl })
 
 -- two arrivals are not ours
 refused-4 : checkOf copies composedText (malformed .slip) .number ≡ 4
@@ -103,11 +101,11 @@ root-bytes = below-replicate 256 32 (omega arith)
 
 -- demand 3 gives these two the same bytes
 pub same-bytes : Same copies composedText root one two
-same-bytes = go (demand-3 copies composedText root refl root-bytes one two to from (fitted .0) (fitted .1))
+same-bytes = go (demand-3 copies composedText root refl root-bytes one two to from (one-two .0 .fitted) (one-two .1 .fitted))
   where
     go : Same copies composedText root one two ⊎ (Shown copies composedText root one × Shown copies composedText root two) → Same copies composedText root one two
     go (inl s) = s
-    go (inr w) = absurd (true≢false (sym (shown-14 copies composedText root refl root-bytes one (w .0)) ∙ fitted .2))
+    go (inr w) = absurd (true≢false (sym (shown-14 copies composedText root refl root-bytes one (w .0)) ∙ one-two .0 .clashed))
 
 -- "two roots, each a salt of 32 bytes and one raw value of type 600 (00 and 01)"; the prelabels have 41 bytes
 abbrev zero : Arrival
@@ -125,18 +123,10 @@ three = zero ∷ unit ∷ []
 abbrev four : List Arrival
 four = unit ∷ zero ∷ unit ∷ []
 
--- each holds what it saw first
-pub three-holds : copy copies composedText clashRoot three ≡ zero .slip
+-- each holds what it saw first, and has answered 14
+pub three-four : Ends clashRoot three (zero .slip) true × Ends clashRoot four (unit .slip) true
 unfolding bitsIn bitsOf numOf octets width within low high tail twoBytes threeBytes fourBytes character front chars decode member marks isMark plain allPlain composedText readValue readLeaf readRest readOne readAll paddingFits settled headerOf bodyOf checkOf leafBits entryBits allBits slipBits slipOf packed sent joinedOf joinOf
-three-holds = refl
-
-pub four-holds : copy copies composedText clashRoot four ≡ unit .slip
-unfolding bitsIn bitsOf numOf octets width within low high tail twoBytes threeBytes fourBytes character front chars decode member marks isMark plain allPlain composedText readValue readLeaf readRest readOne readAll paddingFits settled headerOf bodyOf checkOf leafBits entryBits allBits slipBits slipOf packed sent joinedOf joinOf
-four-holds = refl
-
-clash-fitted : (ever copies composedText misfits (start clashRoot) three ≡ false) × (ever copies composedText misfits (start clashRoot) four ≡ false)
-unfolding bitsIn bitsOf numOf octets width within low high tail twoBytes threeBytes fourBytes character front chars decode member marks isMark plain allPlain composedText readValue readLeaf readRest readOne readAll paddingFits settled headerOf bodyOf checkOf leafBits entryBits allBits slipBits slipOf packed sent joinedOf joinOf
-clash-fitted = (refl, refl)
+three-four = (record { holds = refl; fitted = refl; clashed = refl }, record { holds = refl; fitted = refl; clashed = refl })
 
 -- byte 39 tells the two apart
 apart : (getD (zero .slip) 39 0 ≡ 0) × (getD (unit .slip) 39 0 ≡ 1)
@@ -146,7 +136,7 @@ apart = (refl, refl)
 -- demand 3 gives these two 14, each with the two texts
 pub both-shown : Shown copies composedText clashRoot three × Shown copies composedText clashRoot four
 both-shown =
-    go (demand-3 copies composedText clashRoot refl (below-replicate 256 32 (omega arith)) three four there back (clash-fitted .0) (clash-fitted .1))
+    go (demand-3 copies composedText clashRoot refl (below-replicate 256 32 (omega arith)) three four there back (three-four .0 .fitted) (three-four .1 .fitted))
   where
     there : Reaches copies composedText clashRoot refl (below-replicate 256 32 (omega arith)) three four
     there s o (inl e) = inr (inl e)
@@ -162,5 +152,5 @@ both-shown =
     go : Same copies composedText clashRoot three four ⊎ (Shown copies composedText clashRoot three × Shown copies composedText clashRoot four)
         → Shown copies composedText clashRoot three × Shown copies composedText clashRoot four
     go (inl s) =
-        absurd (omega (arith, ap (λ (z : List ℕ). getD z 39 0) (sym three-holds ∙ s .equal ∙ four-holds), apart .0, apart .1))
+        absurd (omega (arith, ap (λ (z : List ℕ). getD z 39 0) (sym (three-four .0 .holds) ∙ s .equal ∙ three-four .1 .holds), apart .0, apart .1))
     go (inr w) = w
