@@ -8,7 +8,9 @@ use native.Mathlib.Omega.{arith}
 use lib.Pow.{pow-pos, pow-mono, shl-lt, shl-exact}
 use lib.ListN.{length, take, drop, getD, set, replicate, length-append, length-drop, take-append-drop}
 use lib.Seq.{take-suc-set, take-suc, drop-set-lt, drop-drop, length-take-le, take-at, drop-at}
-use Rattle.bits.specs.Lists.{Below, below-take, copied}
+use Rattle.lists.specs.Lists.{Below}
+use Rattle.lists.specs.ListsLaws.{below-take}
+use Rattle.lists.specs.PartsLaws.{copied}
 use Rattle.bits.specs.Bits.{bitsIn, bitsOf, packed}
 use Rattle.bits.specs.FieldLaws.{length-bitsIn, bits-mod, bits-split, bits-join, bits-zero}
 use Rattle.bits.specs.ByteLaws.{length-bitsOf, bitsOf-append, packed-is}

@@ -9,7 +9,9 @@ use lib.Dec.{lit<}
 use lib.Pow.{pow-pos, pow-mono}
 use lib.ListN.{length, take, drop, getD, set, length-drop, take-append-drop}
 use lib.Seq.{drop-drop, getD-drop, take-suc-set, length-take-le}
-use Rattle.bits.specs.Lists.{Below, below-take, below-drop, part-within, copied}
+use Rattle.lists.specs.Lists.{Below}
+use Rattle.lists.specs.ListsLaws.{below-take, below-drop}
+use Rattle.lists.specs.PartsLaws.{part-within, copied}
 use Rattle.bits.specs.Bits.{bitsIn, bitsOf, numOf, octets}
 use Rattle.bits.specs.FieldLaws.{num-append, num-field, num-part}
 use Rattle.bits.specs.ByteLaws.{length-bitsOf, bitsOf-append, drop-bitsOf, octets-bitsOf}

@@ -7,7 +7,9 @@ use native.Mathlib.Omega.{arith}
 use lib.Pow.{pow-mono}
 use lib.ListN.{length, take, drop, replicate, length-append, length-take, length-drop, length-replicate, replicate-append-replicate}
 use lib.Seq.{length-take-le, take-at, drop-at, take-append-add, drop-append-add, drop-nil, take-add}
-use Rattle.bits.specs.Lists.{Below, below-cons, below-append, below-take, below-drop, below-replicate, take-replicate}
+use Rattle.lists.specs.Lists.{Below}
+use Rattle.lists.specs.ListsLaws.{below-cons, below-append, below-take, below-drop, below-replicate}
+use Rattle.lists.specs.PartsLaws.{take-replicate}
 use Rattle.bits.specs.Bits.{bitsIn, bitsOf, numOf, octets, packed}
 use Rattle.bits.specs.FieldLaws.{length-bitsIn, below-bitsIn, num-small, num-field, bits-num}
 

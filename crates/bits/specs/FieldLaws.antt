@@ -9,7 +9,8 @@ use lib.Arith.{digits-lt}
 use lib.Pow.{pow-pos, pow-add, high, low, split, mod-pow-add, shr-shr}
 use lib.ListN.{length, take, drop, replicate, length-append, length-drop, take-append-drop}
 use lib.Seq.{length-take-le}
-use Rattle.bits.specs.Lists.{Below, below-cons}
+use Rattle.lists.specs.Lists.{Below}
+use Rattle.lists.specs.ListsLaws.{below-cons}
 use Rattle.bits.specs.Bits.{bitsIn, numOf}
 
 pub length-bitsIn : (n v : ℕ) → length (bitsIn n v) ≡ n

@@ -1,5 +1,4 @@
 -- Bytes as bits, "packed with the most significant bit first".
-pub mod Lists
 pub mod Bits
 pub mod FieldLaws
 pub mod ByteLaws

@@ -6,7 +6,7 @@ use native.Mathlib.Omega.{arith}
 use borrow.Rule.Slice.PartMut.{midOf, postOf, putMid, mid-len, post-is}
 use lib.ListN.{length, take, drop, length-take}
 use lib.Seq.{length-take-le, take-take, drop-at, take-at, drop-length}
-use Rattle.lists.specs.Lists.{drop-take}
+use Rattle.lists.specs.PartsLaws.{drop-take}
 use Rattle.trees.specs.Nodes.{Node, label}
 use Rattle.trees.specs.Rules.{labelBytes}
 use Rattle.tables.specs.Refusals.{accepted}

@@ -4,7 +4,7 @@ use mathlib.Core.Path.{_≡_, refl, sym}
 use native.Mathlib.Omega.{arith}
 use borrow.Author.Tests.{eq-eqb, ne-eqb, eqb-true, eqb-false, not-true, not-false}
 use lib.Dec.{eqb}
-use Rattle.trees.specs.Lists.{same}
+use Rattle.lists.specs.Lists.{same}
 use Rattle.tables.specs.Refusals.{accepted, rootsDiffer}
 use Rattle.slips.specs.declared.answer.Answer.{Answer}
 use Rattle.slips.specs.Answers.{refused}

@@ -6,7 +6,7 @@ use Prim.Native.Nat.{ℕ, _+_, _≤_, _<_}
 use native.Mathlib.Omega.{arith}
 use lib.Dec.{eqb}
 use lib.ListN.{length, getD, drop, drop-of-length-le}
-use Rattle.lists.specs.Lists.{next-cons}
+use Rattle.lists.specs.PartsLaws.{next-cons}
 use Rattle.unicode.specs.Repertoire.{member}
 use Rattle.unicode.specs.Pairs.{Pair, pair, found, flat, pairs}
 use Rattle.characters.specs.Answers.{sought}

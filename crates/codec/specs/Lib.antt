@@ -2,7 +2,6 @@
 pub mod Writing
 pub mod Reading
 pub mod ReadingLaws
-pub mod Tests
 pub mod TableLaws
 pub mod Reader
 pub mod Measure

@@ -2,7 +2,7 @@
 use mathlib.Core.Path.{_≡_}
 use mathlib.Core.Bool.{true}
 use mathlib.Core.List.{List, [], _∷_}
-use Rattle.bits.specs.Lists.{Below}
+use Rattle.lists.specs.Lists.{Below}
 use Rattle.trees.specs.Rows.{Entry, node, tip, formed}
 
 -- a leaf's value is bytes

@@ -8,10 +8,10 @@ use borrow.Author.Tests.{le-leb, eq-eqb}
 use lib.Dec.{leb}
 use lib.ListN.{length, take, drop, length-drop}
 use lib.Seq.{length-take-le}
-use Rattle.bits.specs.Lists.{Below, below-take, below-drop}
+use Rattle.lists.specs.Lists.{Below, all}
+use Rattle.lists.specs.ListsLaws.{below-take, below-drop}
 use Rattle.trees.specs.Rules.{maxType, maxValue, maxChildren, labelBytes}
-use Rattle.trees.specs.Tests.{and-both}
-use Rattle.trees.specs.Lists.{all}
+use Rattle.lists.specs.TestsLaws.{and-both}
 use Rattle.trees.specs.Rows.{formed}
 use Rattle.tables.specs.Tables.{entryOf, entries, rowFits, firstBad, sum}
 use Rattle.codec.specs.TableLaws.{row-cases, form-cons}

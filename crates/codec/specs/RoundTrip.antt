@@ -8,13 +8,14 @@ use borrow.Author.Tests.{leb-true, eqb-true, le-leb, eq-eqb}
 use lib.Dec.{leb}
 use lib.ListN.{length, take, drop, length-append, take-append-drop}
 use lib.Seq.{take-at, drop-at, length-take-le}
-use Rattle.bits.specs.Lists.{Below, below-take, below-drop}
+use Rattle.lists.specs.Lists.{Below}
+use Rattle.lists.specs.ListsLaws.{below-take, below-drop}
 use Rattle.bits.specs.Bits.{bitsIn, bitsOf, numOf, octets}
 use Rattle.bits.specs.FieldLaws.{length-bitsIn, num-small, num-field, bits-num}
 use Rattle.bits.specs.ByteLaws.{length-bitsOf, length-octets, below-octets, octets-bitsOf, bitsOf-octets}
 use Rattle.trees.specs.Rules.{maxType, maxValue, maxChildren, labelBytes, leafFits}
 use Rattle.trees.specs.Rows.{Entry, node, tip}
-use Rattle.trees.specs.Tests.{and-left, and-right, and-both}
+use Rattle.lists.specs.TestsLaws.{and-left, and-right, and-both}
 use Rattle.tables.specs.Limits.{childBits, typeBits, lengthBits}
 use Rattle.codec.specs.Writing.{leafBits, entryBits, allBits}
 use Rattle.codec.specs.Reading.{Read, short, got, readValue, readLeaf, readRest, readOne, Reading, add, after, readAll}

@@ -6,7 +6,8 @@ use Prim.Native.Nat.{ℕ, zero, suc, _+_, _-_, _/_, _≤_, _<_}
 use native.Mathlib.Omega.{arith}
 use lib.ListN.{length, take, drop, replicate, length-append, length-drop}
 use lib.Seq.{drop-drop}
-use Rattle.bits.specs.Lists.{Below, below-cons, below-append, below-drop}
+use Rattle.lists.specs.Lists.{Below}
+use Rattle.lists.specs.ListsLaws.{below-cons, below-append, below-drop}
 use Rattle.bits.specs.Bits.{bitsIn, bitsOf, numOf, packed}
 use Rattle.bits.specs.FieldLaws.{length-bitsIn, below-bitsIn}
 use Rattle.bits.specs.ByteLaws.{padding, padding-few, below-bitsOf, bitsOf-packed, packed-is, below-octets}

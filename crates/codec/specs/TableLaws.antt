@@ -11,9 +11,8 @@ use lib.ListN.{length, take, drop, getD, length-drop}
 use lib.Seq.{drop-cons, take-all, take-append-le, drop-append-le}
 use Rattle.trees.specs.Rules.{maxType, maxValue, maxChildren, labelBytes}
 use Rattle.trees.specs.Rows.{Entry}
-use Rattle.trees.specs.Tests.{and-left, and-right, and-both, or-cases}
+use Rattle.lists.specs.TestsLaws.{and-left, and-right, and-both, or-cases, or-first, or-second}
 use Rattle.tables.specs.Tables.{entryOf, entries, internalRow, danglingRow, pairRow, rowFits, firstBad, sum}
-use Rattle.codec.specs.Tests.{or-first, or-second}
 
 -- ---- the form of a row
 

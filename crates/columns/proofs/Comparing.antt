@@ -9,8 +9,9 @@ use lib.Dec.{eqb}
 use lib.ListN.{length, take, drop, getD, drop-of-length-le}
 use lib.Seq.{drop-cons}
 use borrow.Author.Tests.{eq-eqb, ne-eqb, eqb-true}
-use Rattle.trees.specs.Lists.{same, same-true}
-use Rattle.trees.specs.Tests.{or-cases}
+use Rattle.lists.specs.Lists.{same}
+use Rattle.lists.specs.ListsLaws.{same-true}
+use Rattle.lists.specs.TestsLaws.{or-cases}
 use Rattle.trees.specs.Nodes.{Head}
 use Rattle.trees.specs.Rules.{labelBytes}
 use Rattle.columns.specs.Columns.{textAt, headsBack, sameHead, agree, noneLeft, Labelled, Ready}

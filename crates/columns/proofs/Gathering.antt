@@ -8,7 +8,7 @@ use lib.ListN.{length, take, drop, getD, set, length-append, length-drop, drop-o
 use lib.Seq.{drop-cons, take-suc-set, take-at, length-take-le, take-all}
 use Rattle.tables.specs.Tables.{sum}
 use Rattle.columns.specs.Columns.{valueAt}
-use Rattle.columns.specs.Gathers.{concat}
+use Rattle.lists.specs.Lists.{concat}
 
 -- the rows left, from row k on
 pub rest-more : (plan : List ℕ) (k : ℕ) → k < length plan → drop k plan ≡ getD plan k 0 ∷ drop (k + 1) plan

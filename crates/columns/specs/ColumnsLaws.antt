@@ -4,7 +4,7 @@ use mathlib.Core.Bool.{false, _||_}
 use Prim.Native.Nat.{ℕ}
 use lib.Dec.{eqb}
 use borrow.Author.Tests.{eqb-false}
-use Rattle.trees.specs.Tests.{or-left, or-right}
+use Rattle.lists.specs.TestsLaws.{or-left, or-right}
 use Rattle.columns.specs.Columns.{noneLeft}
 
 -- children are left

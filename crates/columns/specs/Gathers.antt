@@ -1,17 +1,13 @@
 -- The table that a plan names.
 use mathlib.Core.Path.{_≡_}
-use mathlib.Core.List.{List, [], _∷_, _++_, map}
+use mathlib.Core.List.{List, map}
 use Prim.Native.Nat.{ℕ, _+_, _≤_, _<_}
 use lib.ListN.{length, take, getD}
+use Rattle.lists.specs.Lists.{concat}
 use Rattle.trees.specs.Rules.{maxNodes}
 use Rattle.tables.specs.Tables.{sum}
 use Rattle.columns.specs.declared.gather.Gathered.{Gathered}
 use Rattle.columns.specs.Columns.{valueAt}
-
--- the lists end to end
-abbrev pub concat {ℓ} : {A : Type ℓ} → List (List A) → List A
-concat [] = []
-concat (x ∷ xs) = x ++ concat xs
 
 -- a cell of a column
 abbrev pub cellOf : List ℕ → ℕ → ℕ

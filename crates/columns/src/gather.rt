@@ -6,7 +6,8 @@ ghost use Prim.Native.Nat.{ℕ, _+_, _≤_, _<_};
 ghost use lib.ListN.{length, take, getD};
 ghost use Rattle.tables.specs.Tables.{sum};
 ghost use Rattle.columns.specs.Columns.{valueAt};
-ghost use Rattle.columns.specs.Gathers.{concat, cellOf, InRange, Gathering, Gathers};
+ghost use Rattle.lists.specs.Lists.{concat};
+ghost use Rattle.columns.specs.Gathers.{cellOf, InRange, Gathering, Gathers};
 
 // How many rows and value bytes were gathered.
 pub struct Gathered {

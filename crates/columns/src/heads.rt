@@ -4,7 +4,7 @@ use tables::limits::Slip;
 ghost use mathlib.Core.Path.{_≡_};
 ghost use Prim.Native.Nat.{_≤_, _<_};
 ghost use lib.ListN.{length};
-ghost use Rattle.trees.specs.Lists as Lists;
+ghost use Rattle.lists.specs.Lists as Lists;
 ghost use Rattle.columns.specs.Columns.{textAt, headAt, headsBack, sameHead, agree, noneLeft, Labelled, Ready};
 
 // Whether two texts are equal.

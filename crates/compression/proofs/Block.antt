@@ -9,7 +9,7 @@ use lib.ListN.{length, take, drop, getD, set}
 use lib.Seq.{drop-cons}
 use Rattle.compression.specs.Words.{rotr, number, words}
 use Rattle.compression.specs.Sha256.{three, two}
-use Rattle.lists.specs.Lists.{filled}
+use Rattle.lists.specs.PartsLaws.{filled}
 
 -- three rotations, and two with a shift
 pub three-is :

@@ -9,7 +9,7 @@ use lib.Seq.{getD-take}
 use Rattle.compression.specs.Words.{plus, ch, maj}
 use Rattle.compression.specs.Compression.{following, schedule, scheduled, first, second, round, rounds, added, compress, chain}
 use Rattle.compression.specs.Sha256.{sha256, three, two, constants}
-use Rattle.lists.specs.Lists.{filled}
+use Rattle.lists.specs.PartsLaws.{filled}
 
 -- T1, T2 and a round, from what the code's steps give
 pub first-is :

@@ -9,8 +9,10 @@ use borrow.Author.Tests.{ne-eqb, eq-eqb, eqb-true, eqb-false, ltb-true, ltb-fals
 use lib.Dec.{ltb, leb, eqb}
 use lib.ListN.{length, take, drop, getD, length-map}
 use Rattle.refusals.specs.Chain.{chain, chain-each}
-use Rattle.trees.specs.Tests.{and-left, and-right, and-both}
-use Rattle.trees.specs.Lists.{all, all-append, same, same-true, same-false, cons-head, cons-tail, nil-cons, map-take, map-drop}
+use Rattle.lists.specs.TestsLaws.{and-left, and-right, and-both}
+use Rattle.lists.specs.Lists.{all, same}
+use Rattle.lists.specs.ListsLaws.{all-append, same-true, same-false, cons-head, cons-tail, nil-cons}
+use Rattle.lists.specs.PartsLaws.{map-take, map-drop}
 use Rattle.trees.specs.Nodes.{Node, inner, typeOf, height, highest, heads, prelabel, blocksOf, label, blocks}
 use Rattle.trees.specs.Rules.{maxHeight, maxBytes, childrenMissing, tooHigh, saltBroken, notComposed, clashing, salted, textFits}
 use Rattle.trees.specs.Places.{Place}

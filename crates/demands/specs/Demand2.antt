@@ -7,7 +7,7 @@ use mathlib.Core.List.{List, _++_}
 use mathlib.Core.Option.{some}
 use mathlib.Core.Path.{_≡_}
 use lib.ListN.{length}
-use Rattle.bits.specs.Lists.{Below}
+use Rattle.lists.specs.Lists.{Below}
 use Rattle.trees.specs.Nodes.{Node, Run, inner, leaf, label, blocks}
 use Rattle.trees.specs.Places.{Place, nodeAt, stays, cut}
 use Rattle.trees.specs.PruneLaws.{cut-stays, cut-named}

@@ -8,7 +8,7 @@ use mathlib.Core.List.{List}
 use mathlib.Core.Logic.{_⊎_, inl, inr}
 use mathlib.Core.Path.{_≡_, refl, sym, ap, _∙_, subst, subst₂}
 use lib.ListN.{length}
-use Rattle.bits.specs.Lists.{Below}
+use Rattle.lists.specs.Lists.{Below}
 use Rattle.trees.specs.Nodes.{Node, label}
 use Rattle.trees.specs.Rules.{labelBytes}
 use Rattle.trees.specs.Places.{Le, tells}

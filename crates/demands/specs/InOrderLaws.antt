@@ -5,8 +5,8 @@ use mathlib.Core.List.{List, [], _∷_, _++_}
 use mathlib.Core.Logic.{_⊎_, inl, inr}
 use mathlib.Core.Path.{_≡_, refl}
 use Rattle.refusals.specs.Chain.{chain, chain-each}
-use Rattle.trees.specs.Tests.{and-left, and-right}
-use Rattle.trees.specs.Lists.{all}
+use Rattle.lists.specs.TestsLaws.{and-left, and-right}
+use Rattle.lists.specs.Lists.{all}
 use Rattle.demands.specs.InOrder.{Case, Free, Gives, InOrder}
 
 -- a refusal at place i that is not given

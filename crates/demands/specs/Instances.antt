@@ -8,7 +8,8 @@ use mathlib.Core.Path.{_≡_, refl, sym, ap, _∙_}
 use native.Mathlib.Omega.{arith}
 use lib.ListN.{getD, replicate}
 use Rattle.bits.specs.Bits.{bitsIn, bitsOf, numOf, octets, packed}
-use Rattle.bits.specs.Lists.{Below, below-replicate}
+use Rattle.lists.specs.Lists.{Below}
+use Rattle.lists.specs.ListsLaws.{below-replicate}
 use Rattle.bits.specs.ByteLaws.{below-octets}
 use Rattle.unicode.specs.Utf8.{width, within, low, high, tail, twoBytes, threeBytes, fourBytes, character, front, chars, decode}
 use Rattle.unicode.specs.Repertoire.{member, marks, isMark, plain, allPlain}

@@ -7,7 +7,7 @@ use mathlib.Core.Option.{some}
 use mathlib.Core.Path.{_≡_}
 use lib.Dec.{eqb}
 use lib.ListN.{length, take}
-use Rattle.bits.specs.Lists.{Below}
+use Rattle.lists.specs.Lists.{Below}
 use Rattle.trees.specs.Rules.{clashing}
 use Rattle.trees.specs.Places.{Place, Fact, tells}
 use Rattle.trees.specs.Join.{Collision}

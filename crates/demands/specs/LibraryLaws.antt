@@ -10,9 +10,9 @@ use borrow.Author.Tests.{eq-eqb, ne-eqb, eqb-true, le-ltb}
 use lib.Dec.{ltb, eqb}
 use lib.ListN.{length, take, drop, length-append}
 use lib.Seq.{take-at}
-use Rattle.bits.specs.Lists.{Below}
-use Rattle.trees.specs.Tests.{and-left, and-right, and-both, or-cases}
-use Rattle.trees.specs.Lists.{same, same-refl, same-true, none-some, some-inj}
+use Rattle.lists.specs.Lists.{Below, same}
+use Rattle.lists.specs.TestsLaws.{and-left, and-right, and-both, or-cases}
+use Rattle.lists.specs.ListsLaws.{same-refl, same-true, none-some, some-inj}
 use Rattle.trees.specs.Nodes.{Node, size, label, blocks}
 use Rattle.trees.specs.Rules.{maxNodes, maxBytes, labelBytes}
 use Rattle.trees.specs.Places.{Place}

@@ -8,7 +8,8 @@ use native.Mathlib.Omega.{arith}
 use borrow.Author.Tests.{eqb-true, eqb-false, ltb-true, ltb-false}
 use lib.Dec.{ltb, eqb}
 use lib.ListN.{length}
-use Rattle.trees.specs.Lists.{all, all-append}
+use Rattle.lists.specs.Lists.{all}
+use Rattle.lists.specs.ListsLaws.{all-append}
 use Rattle.titles.specs.Refusals.{accepted, outputShort, titleLong, notUtf8, outsideRepertoire, looseMark, maxBytes}
 use Rattle.unicode.specs.Utf8.{ill, width, decode}
 use Rattle.unicode.specs.Repertoire.{isMark}

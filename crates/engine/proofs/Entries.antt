@@ -6,13 +6,13 @@ use mathlib.Core.List.{List, [], _∷_}
 use native.Mathlib.Omega.{arith}
 use lib.Dec.{eqb, leb}
 use borrow.Author.Tests.{eqb-true, leb-true}
-use Rattle.trees.specs.Tests.{and-left, and-right, and-both, or-cases}
+use Rattle.lists.specs.TestsLaws.{and-left, and-right, and-both, or-cases}
 use Rattle.trees.specs.Rules.{labelBytes, maxType, maxValue, maxChildren}
 use Rattle.trees.specs.Rows.{formed}
 use lib.ListN.{length, take, drop, getD, drop-of-length-le}
 use lib.Seq.{drop-drop}
 use Rattle.tables.specs.Tables.{entryOf, entries, sum, internalRow, danglingRow, pairRow, rowFits, firstBad}
-use Rattle.lists.specs.Lists.{next-cons}
+use Rattle.lists.specs.PartsLaws.{next-cons}
 
 -- the row i, and the rows behind it
 pub entries-next :

@@ -5,7 +5,7 @@ use mathlib.Core.Bool.{true}
 use mathlib.Core.List.{List, [], _++_}
 use native.Mathlib.Omega.{arith}
 use lib.ListN.{length, drop}
-use Rattle.trees.specs.Lists.{all}
+use Rattle.lists.specs.Lists.{all}
 use Rattle.trees.specs.Rules.{maxValue}
 use Rattle.trees.specs.Rows.{Entry, Tag, judged, verdict}
 use Rattle.tables.specs.Tables.{entries, sum}

@@ -7,14 +7,14 @@ use native.Mathlib.Omega.{arith}
 use lib.Dec.{eqb, leb}
 use lib.ListN.{length, length-append, length-take, length-drop}
 use borrow.Author.Tests.{eqb-true, eqb-false, eq-eqb, ne-eqb, leb-true, le-ltb, not-true}
-use Rattle.trees.specs.Tests.{and-left, and-right, and-both, or-cases}
-use Rattle.trees.specs.Lists.{all, all-append}
+use Rattle.lists.specs.TestsLaws.{and-left, and-right, and-both, or-cases}
+use Rattle.lists.specs.Lists.{all}
+use Rattle.lists.specs.ListsLaws.{all-append, all-take, all-drop}
 use Rattle.trees.specs.Nodes.{piece}
 use Rattle.trees.specs.Rules.{labelBytes, saltType, saltBytes, maxValue, maxType, maxChildren, maxHeight, notComposed, saltFirst, saltLong, saltThere, salted, leafFits, textFits}
 use Rattle.trees.specs.Rows.{Entry, node, tip, formed, Tag, headOf, highestOf, kids, below, parent, fault, next, stepOf}
 use Rattle.sha2.specs.Sha256 as Sha256
 use Rattle.sha2.specs.Blocks.{label-long}
-use Rattle.engine.specs.Lists.{all-take, all-drop}
 use Rattle.faults.specs.Waiting.{faultOf}
 use Rattle.stack.specs.Areas.{pieces, cost, after, Sound}
 use Rattle.stack.specs.PieceLaws.{length-split, length-more}

@@ -13,7 +13,7 @@ use Rattle.sha2.specs.Sha256 as Sha256
 use Rattle.sha2.specs.Blocks.{label-long}
 use Rattle.engine.specs.Engine.{lastText}
 use Rattle.stack.specs.Areas.{pieces, after, noted}
-use Rattle.lists.specs.Lists.{part, front, same-part}
+use Rattle.lists.specs.PartsLaws.{part, front, same-part}
 
 -- the text on the top
 pub last-is : (st : List Tag) (g : Tag) → lastText (st ++ (g ∷ [])) ≡ g .text

@@ -14,7 +14,7 @@ use Rattle.engine.specs.Engine.{told, noLabel, oneTree}
 use Rattle.faults.specs.Waiting.{kindOf}
 use Rattle.stack.specs.Areas.{pieces}
 use Rattle.engine.specs.declared.judge.Judged.{Judged}
-use Rattle.lists.specs.Lists.{part}
+use Rattle.lists.specs.PartsLaws.{part}
 
 -- the answer over whether one tree waits, and its label
 abbrev pub answer : Bool → ℕ → List ℕ → Judged

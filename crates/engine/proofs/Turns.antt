@@ -5,8 +5,8 @@ use mathlib.Core.Bool.{true}
 use mathlib.Core.List.{List, [], _∷_, _++_, append-nil, append-assoc}
 use native.Mathlib.Omega.{arith}
 use lib.ListN.{length, take, drop, getD, length-append, length-take, length-drop}
-use Rattle.trees.specs.Lists.{all}
-use Rattle.trees.specs.Tests.{and-left}
+use Rattle.lists.specs.Lists.{all}
+use Rattle.lists.specs.TestsLaws.{and-left}
 use Rattle.trees.specs.Nodes.{piece}
 use Rattle.trees.specs.Rules.{labelBytes}
 use Rattle.trees.specs.Rows.{Entry, formed, Tag, headOf, Step, next, fault, faulty, left, onward, stepOf, judged}

@@ -3,7 +3,7 @@ use Prim.Native.Nat.{ℕ, _+_, _≤_, _<_, max}
 use mathlib.Core.Path.{_≡_, ap}
 use mathlib.Core.List.{List}
 use lib.ListN.{length, drop, getD, drop-of-length-le}
-use Rattle.lists.specs.Lists.{next-cons}
+use Rattle.lists.specs.PartsLaws.{next-cons}
 use Rattle.faults.specs.Waiting.{greatest}
 
 pub greatest-next : (l : List ℕ) (i : ℕ) → i < length l → greatest (drop i l) ≡ max (getD l i 0) (greatest (drop (i + 1) l))

@@ -8,13 +8,13 @@ use native.Mathlib.Omega.{arith}
 use borrow.Author.Tests.{eqb-true, eq-eqb, ne-eqb, le-leb, lt-leb, ltb-true, ltb-false}
 use lib.Dec.{eqb, leb, ltb}
 use lib.ListN.{length, drop, getD, drop-of-length-le}
-use Rattle.trees.specs.Lists.{all}
+use Rattle.lists.specs.Lists.{all}
 use Rattle.trees.specs.Nodes.{Head}
 use Rattle.trees.specs.Rules.{saltType, saltBytes, isSalt, saltLong, salted}
 use Rattle.trees.specs.Rows.{Tag, headOf}
 use Rattle.faults.specs.Waiting.{kindOf, sizeOf}
-use Rattle.lists.specs.Lists.{next-cons}
-use Rattle.faults.specs.Tests.{and-false, or-true}
+use Rattle.lists.specs.PartsLaws.{next-cons}
+use Rattle.lists.specs.TestsLaws.{and-false, or-true}
 
 -- the types of the children behind the first: none is a salt, and without a salt before them none is above it
 unfoldable pub later : Bool → List ℕ → Bool

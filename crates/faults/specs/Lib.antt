@@ -2,5 +2,3 @@
 pub mod Waiting
 pub mod WaitingLaws
 pub mod Steps
--- Laws of Bools:
-pub mod Tests

@@ -11,7 +11,7 @@ use Rattle.trees.specs.Rules.{maxHeight, childrenMissing, tooHigh, saltBroken, 
 use Rattle.trees.specs.Rows.{Entry, node, tip, Tag, headOf, highestOf, Step, fault, next, kids, stepOf}
 use Rattle.tables.specs.Tables.{entryOf}
 use Rattle.faults.specs.Waiting.{faultOf}
-use Rattle.faults.specs.Tests.{and-false}
+use Rattle.lists.specs.TestsLaws.{and-false}
 
 -- a row's entry, by its count of children
 pub entry-tip : (t c : ℕ) (v : List ℕ) → c ≡ 0 → entryOf t c v ≡ tip t v

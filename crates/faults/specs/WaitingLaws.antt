@@ -3,9 +3,8 @@ use Prim.Native.Nat.{ℕ, _-_}
 use mathlib.Core.Path.{_≡_, refl, sym, ap, _∙_}
 use mathlib.Core.List.{List, [], _∷_, map}
 use lib.ListN.{length, take, drop, length-map}
-use Rattle.trees.specs.Lists.{map-drop}
+use Rattle.lists.specs.PartsLaws.{map-drop, tail-part}
 use Rattle.trees.specs.Rows.{Tag, highestOf, kids}
-use Rattle.lists.specs.Lists.{tail-part}
 use Rattle.faults.specs.Waiting.{kindOf, heightOf, greatest, Columns}
 
 pub greatest-is : (gs : List Tag) → greatest (map heightOf gs) ≡ highestOf gs

@@ -7,7 +7,7 @@ use native.Mathlib.Omega.{arith}
 use borrow.Author.Tests.{lt-ltb, le-ltb}
 use lib.Dec.{ltb}
 use lib.ListN.{length, take, drop, getD, set}
-use Rattle.lists.specs.Lists.{next-cons, one-more}
+use Rattle.lists.specs.PartsLaws.{next-cons, one-more}
 use Rattle.fips.specs.Digits.{digitOf, isHex, bytesOf, none, longerBy, reads, numberOf}
 
 -- a test of one digit, and of two

@@ -6,8 +6,8 @@ use mathlib.Core.Path.{_≡_, refl, sym, ap, ap₂, _∙_, subst}
 use borrow.Author.Tests.{eq-eqb, ne-eqb, eqb-true, leb-true, not-false}
 use lib.Dec.{eqb, leb}
 use lib.ListN.{length}
-use Rattle.trees.specs.Tests.{and-left, and-right}
-use Rattle.trees.specs.Lists.{same}
+use Rattle.lists.specs.TestsLaws.{and-left, and-right}
+use Rattle.lists.specs.Lists.{same}
 use Rattle.trees.specs.Rules.{maxBytes, maxNodes}
 use Rattle.trees.specs.Join.{join}
 use Rattle.tables.specs.Areas.{smallBytes, smallNodes}

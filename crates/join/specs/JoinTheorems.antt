@@ -6,9 +6,9 @@ use mathlib.Core.Path.{_≡_, refl, sym, ap, ap₂, _∙_, subst}
 use borrow.Author.Tests.{eqb-true, eqb-false, le-ltb, ltb-false}
 use lib.Dec.{ltb, eqb}
 use lib.ListN.{length}
-use Rattle.bits.specs.Lists.{Below}
-use Rattle.trees.specs.Tests.{or-left, or-right}
-use Rattle.trees.specs.Lists.{same, same-refl, same-true, same-comm}
+use Rattle.lists.specs.Lists.{Below, same}
+use Rattle.lists.specs.TestsLaws.{or-left, or-right}
+use Rattle.lists.specs.ListsLaws.{same-refl, same-true, same-comm}
 use Rattle.trees.specs.Nodes.{Node, size, label}
 use Rattle.trees.specs.Rules.{maxNodes, maxBytes}
 use Rattle.trees.specs.RulesLaws.{On, join-all, join-well-formed}

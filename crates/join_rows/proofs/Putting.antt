@@ -7,7 +7,7 @@ use native.Mathlib.Nat.{sub-self}
 use native.Mathlib.Omega.{arith}
 use lib.ListN.{length, drop, set, length-set}
 use lib.Seq.{drop-cons, getD-set-same, drop-set-lt}
-use Rattle.join_rows.specs.Lists.{upto}
+use Rattle.lists.specs.Lists.{upto}
 
 drop-set-here : (l : List ℕ) (j v : ℕ) → j < length l → drop j (set l j v) ≡ v ∷ drop (suc j) l
 drop-set-here l j v h =

@@ -6,11 +6,11 @@ use native.Mathlib.Omega.{arith}
 use lib.Dec.{eqb}
 use lib.ListN.{length}
 use borrow.Author.Tests.{eqb-true, eq-eqb}
-use Rattle.trees.specs.Lists.{same, same-true, same-false, same-refl}
-use Rattle.trees.specs.Tests.{and-left, and-right, and-both}
+use Rattle.lists.specs.Lists.{same, backwards}
+use Rattle.lists.specs.ListsLaws.{same-true, same-false, same-refl, backwards-inj, length-backwards}
+use Rattle.lists.specs.TestsLaws.{and-left, and-right, and-both}
 use Rattle.trees.specs.Nodes.{Head, prelabel}
 use Rattle.trees.specs.NodesLaws.{prelabel-inj}
-use Rattle.join_rows.specs.Lists.{backwards, backwards-inj, length-backwards}
 use Rattle.columns.specs.Columns.{sameHead, agree}
 
 -- heads that agree are equal, and back

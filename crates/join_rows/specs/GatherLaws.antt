@@ -10,11 +10,11 @@ use Rattle.trees.specs.Rules.{labelBytes, maxNodes}
 use Rattle.trees.specs.Rows.{Entry}
 use Rattle.tables.specs.Records.{TreeTable}
 use Rattle.tables.specs.Tables.{entryOf, entries, firstBad, sum}
-use Rattle.join_rows.specs.Lists.{Names}
+use Rattle.lists.specs.Lists.{Names, concat}
 use Rattle.join_rows.specs.Faces.{Face, noFace, entryOfFace, bytesOfFace, faces}
 use Rattle.join_rows.specs.FacesLaws.{rows-faces}
 use Rattle.columns.specs.Columns.{valueAt}
-use Rattle.columns.specs.Gathers.{concat, cellOf, InRange, valuesOf}
+use Rattle.columns.specs.Gathers.{cellOf, InRange, valuesOf}
 use Rattle.join_rows.specs.TablesLaws.{Shows, shown-bytes}
 use Rattle.join_rows.specs.TwoLaws.{counts-long, lengths-long}
 

@@ -11,7 +11,7 @@ use Rattle.trees.specs.Join.{ok, join}
 use Rattle.tables.specs.Records.{TreeTable}
 use Rattle.tables.specs.Tables.{sum}
 use Rattle.tables.specs.TablesLaws.{sum-append, sum-part}
-use Rattle.join_rows.specs.Lists.{Names}
+use Rattle.lists.specs.Lists.{Names}
 use Rattle.join_rows.specs.Faces.{Face, noFace, bytesOfFace, faces}
 use Rattle.columns.specs.Columns.{valueAt, Surveyed}
 use Rattle.join_rows.specs.Plans.{Two}

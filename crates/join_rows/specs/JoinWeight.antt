@@ -4,7 +4,7 @@ use mathlib.Core.Bool.{Bool, true, false, cond}
 use mathlib.Core.List.{List, [], _∷_, _++_, map, map-append}
 use Prim.Native.Nat.{ℕ, _+_, _≤_}
 use native.Mathlib.Omega.{arith}
-use Rattle.trees.specs.Lists.{same}
+use Rattle.lists.specs.Lists.{same}
 use Rattle.trees.specs.Nodes.{Node, Run, inner, leaf, nil, cons, Head, prelabel, heads}
 use Rattle.trees.specs.Join.{Joint, ok, clash, JointRun, okRun, clashAt, wrap, both, join, joinRun}
 use Rattle.tables.specs.Tables.{sum}

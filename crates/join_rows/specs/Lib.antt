@@ -18,5 +18,3 @@ pub mod TwoLaws
 pub mod PlanLaws
 pub mod GatherLaws
 pub mod JoinTable
--- Laws of plain lists:
-pub mod Lists

@@ -8,7 +8,8 @@ use native.Mathlib.Omega.{arith}
 use lib.Dec.{eqb}
 use lib.ListN.{length, getD}
 use borrow.Author.Tests.{eqb-true, eqb-false, eq-eqb, ne-eqb}
-use Rattle.trees.specs.Lists.{same, same-true}
+use Rattle.lists.specs.Lists.{same, backwards, At}
+use Rattle.lists.specs.ListsLaws.{same-true}
 use Rattle.trees.specs.Nodes.{Node, Run, inner, leaf, count, size, sizes, Head, prelabel, heads}
 use Rattle.trees.specs.NodesLaws.{prelabel-inj}
 use Rattle.trees.specs.StackLaws.{length-heads}
@@ -17,7 +18,6 @@ use Rattle.trees.specs.JoinLaws.{join-run-good}
 use Rattle.columns.specs.declared.meet.Meeting.{Meeting}
 use Rattle.columns.specs.declared.meet.Meeting.the-variants.{Clash, Take, Both}
 use Rattle.join_rows.specs.declared.walk.Walked.{Walked}
-use Rattle.join_rows.specs.Lists.{backwards, At}
 use Rattle.join_rows.specs.Faces.{Face, noFace, countOfFace, faces, facesIn, root}
 use Rattle.join_rows.specs.FacesLaws.{length-faces}
 use Rattle.columns.specs.Columns.{headAt, headsBack, agree}

@@ -11,7 +11,8 @@ use Rattle.trees.specs.Nodes.{Node, size}
 use Rattle.trees.specs.Join.{Joint, ok, clash, join}
 use Rattle.trees.specs.Rows.{number}
 use Rattle.join_rows.specs.declared.walk.Walked.{Walked}
-use Rattle.join_rows.specs.Lists.{At, at-part, Names}
+use Rattle.lists.specs.Lists.{At, Names}
+use Rattle.lists.specs.ListsLaws.{at-part}
 use Rattle.join_rows.specs.Faces.{Face, noFace, faces}
 use Rattle.join_rows.specs.FacesLaws.{length-faces}
 use Rattle.columns.specs.Columns.{Surveyed}

@@ -11,7 +11,7 @@ use Rattle.trees.specs.Rows.{number}
 use Rattle.tables.specs.Tables.{sum}
 use Rattle.tables.specs.Records.{Holds}
 use Rattle.join_rows.specs.declared.plan.Planned.{Planned}
-use Rattle.join_rows.specs.Lists.{Names}
+use Rattle.lists.specs.Lists.{Names}
 use Rattle.join_rows.specs.Faces.{noFace, faces}
 use Rattle.columns.specs.Columns.{Surveyed}
 

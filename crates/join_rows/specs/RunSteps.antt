@@ -7,14 +7,14 @@ use native.Mathlib.Omega.{arith}
 use lib.Dec.{eqb}
 use lib.ListN.{length, getD}
 use borrow.Author.Tests.{eqb-true}
-use Rattle.trees.specs.Lists.{append-cancel, nil-cons}
-use Rattle.trees.specs.Tests.{or-cases}
+use Rattle.lists.specs.ListsLaws.{append-cancel, nil-cons, at-front, at-back}
+use Rattle.lists.specs.TestsLaws.{or-cases}
 use Rattle.trees.specs.Nodes.{Node, Run, inner, leaf, nil, cons, count, size, sizes, heads}
 use Rattle.trees.specs.StackLaws.{length-heads}
 use Rattle.trees.specs.Join.{join, joinRun}
 use Rattle.columns.specs.Columns.{noneLeft}
 use Rattle.join_rows.specs.declared.walk.Walked.{Walked}
-use Rattle.join_rows.specs.Lists.{At, at-front, at-back}
+use Rattle.lists.specs.Lists.{At}
 use Rattle.join_rows.specs.Faces.{Face, noFace, faces, facesIn, root}
 use Rattle.join_rows.specs.FacesLaws.{length-faces-in}
 use Rattle.join_rows.specs.Runs.{snoc, ended, count-snoc, sizes-snoc, heads-snoc, faces-snoc}

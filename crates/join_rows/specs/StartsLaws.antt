@@ -7,7 +7,8 @@ use native.Mathlib.Omega.{arith}
 use lib.ListN.{length, getD}
 use Rattle.trees.specs.Nodes.{Node, Run, inner, leaf, nil, cons, typeOf, count, size, sizes, Head, label, heads}
 use Rattle.trees.specs.StackLaws.{length-heads}
-use Rattle.join_rows.specs.Lists.{backwards, At, at-front, at-back}
+use Rattle.lists.specs.Lists.{backwards, At}
+use Rattle.lists.specs.ListsLaws.{at-front, at-back}
 use Rattle.join_rows.specs.Faces.{Face, ofInner, noFace, countOfFace, headOfFace, faces, facesIn, root}
 use Rattle.join_rows.specs.FacesLaws.{length-faces, length-faces-in}
 use Rattle.columns.specs.Columns.{back, headsBack}

@@ -8,7 +8,7 @@ use Rattle.trees.specs.Nodes.{Node, Run, count, size, sizes, Head, heads}
 use Rattle.trees.specs.Join.{Joint, ok, clash, JointRun, okRun, clashAt, join, joinRun}
 use Rattle.trees.specs.Rows.{number, numberIn}
 use Rattle.join_rows.specs.declared.walk.Walked.{Walked}
-use Rattle.join_rows.specs.Lists.{upto, At, Names}
+use Rattle.lists.specs.Lists.{upto, At, Names}
 use Rattle.join_rows.specs.Faces.{Face, ofInner, noFace, countOfFace, headOfFace, faces, facesIn, root}
 use Rattle.columns.specs.Columns.{back, headAt}
 

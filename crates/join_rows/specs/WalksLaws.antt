@@ -11,7 +11,8 @@ use Rattle.trees.specs.JoinLaws.{GoodRun}
 use Rattle.trees.specs.Rows.{numberIn}
 use Rattle.tables.specs.Tables.{sum}
 use Rattle.join_rows.specs.declared.walk.Walked.{Walked}
-use Rattle.join_rows.specs.Lists.{upto, At, at-names, names-append}
+use Rattle.lists.specs.Lists.{upto, At}
+use Rattle.lists.specs.ListsLaws.{at-names, names-append}
 use Rattle.join_rows.specs.Faces.{Face, ofInner, noFace, faces, facesIn, root}
 use Rattle.join_rows.specs.FacesLaws.{length-faces}
 use Rattle.join_rows.specs.Runs.{snoc, sizes-snoc, number-last, number-front, bothLast, Within, faces-snoc, join-snoc, join-within}

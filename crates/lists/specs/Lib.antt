@@ -1,2 +1,6 @@
--- Laws of lists that more than one crate uses.
+-- Plain lists and Bools: what more than one crate says and uses of them. Definitions:
 pub mod Lists
+-- Laws:
+pub mod TestsLaws
+pub mod ListsLaws
+pub mod PartsLaws

@@ -9,7 +9,7 @@ use lib.ListN.{length, getD, take, drop}
 use borrow.Author.Tests.{eqb-true, eqb-false, leb-true, le-leb}
 use Rattle.trees.specs.Rules.{maxType}
 use Rattle.trees.specs.Rows.{Entry, tip}
-use Rattle.trees.specs.Tests.{and-left, and-right}
+use Rattle.lists.specs.TestsLaws.{and-left, and-right}
 use Rattle.tables.specs.Tables.{Table, tableFits, entries, sum}
 use Rattle.tables.specs.TablesLaws.{Formed, table-told, fits-cases, formed-row, sum-part, entries-at}
 use Rattle.lookup.specs.Lookup.{firstOf, heldIn}

@@ -16,7 +16,8 @@ use Rattle.tables.specs.Records.{TreeTable}
 use Rattle.tables.specs.Refusals.{joinTooLarge}
 use Rattle.sha2.specs.Sha256 as Sha256
 use Rattle.join_rows.specs.declared.plan.Planned.{Planned}
-use Rattle.join_rows.specs.Lists.{Names, names-length}
+use Rattle.lists.specs.Lists.{Names}
+use Rattle.lists.specs.ListsLaws.{names-length}
 use Rattle.join_rows.specs.Faces.{noFace, faces}
 use Rattle.join_rows.specs.FacesLaws.{length-faces}
 use Rattle.columns.specs.Columns.{Surveyed}

@@ -8,7 +8,7 @@ use borrow.Author.Tests.{lt-ltb, le-ltb, ltb-false, eq-eqb, ne-eqb, eqb-true, eq
 use lib.Dec.{ltb, eqb}
 use lib.ListN.{length}
 use Rattle.trees.specs.Rules.{maxBytes}
-use Rattle.trees.specs.Lists.{all}
+use Rattle.lists.specs.Lists.{all}
 use Rattle.trees.specs.Rows.{Entry, formed, Tag, Verdict, faulty, left, verdict}
 use Rattle.tables.specs.Refusals.{accepted, tooLong, noNodes, notOneTree, noRoom, badTable}
 use Rattle.tables.specs.Tables.{Table, rowFits, firstBad, columnsFit, rowBad, areaFits, tableFits, sum}

@@ -6,7 +6,7 @@ use mathlib.Core.Path.{_≡_, refl, sym, ap, _∙_}
 use native.Mathlib.Omega.{arith}
 use borrow.Author.Tests.{eq-eqb, le-ltb}
 use lib.ListN.{length}
-use Rattle.trees.specs.Lists.{all}
+use Rattle.lists.specs.Lists.{all}
 use Rattle.trees.specs.Rules.{childrenMissing, notComposed, maxBytes}
 use Rattle.trees.specs.Rows.{Entry, formed, Verdict, faulty, left, verdict}
 use Rattle.trees.specs.Refused.{Broken, Scattered}

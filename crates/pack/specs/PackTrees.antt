@@ -8,8 +8,8 @@ use borrow.Author.Tests.{eq-eqb, le-ltb, le-leb, lt-leb, leb-true, eqb-true, ltb
 use lib.Dec.{ltb, leb}
 use lib.ListN.{length, length-append, length-map}
 use lib.Seq.{take-at, drop-at}
-use Rattle.trees.specs.Tests.{and-left, and-right}
-use Rattle.trees.specs.Lists.{all}
+use Rattle.lists.specs.TestsLaws.{and-left, and-right}
+use Rattle.lists.specs.Lists.{all}
 use Rattle.trees.specs.Nodes.{Node, typeOf, size, label, blocks}
 use Rattle.trees.specs.Rules.{maxType, maxValue, maxChildren, labelBytes, maxNodes, maxBytes, WellFormed}
 use Rattle.trees.specs.Rows.{Entry, node, tip, formed, rows, Tag, Verdict, faulty, left, verdict}

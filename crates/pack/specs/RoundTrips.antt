@@ -6,7 +6,7 @@ use mathlib.Core.Path.{_≡_, refl, sym, ap, _∙_, subst}
 use native.Mathlib.Omega.{arith}
 use lib.ListN.{length, take, drop, length-map}
 use lib.Seq.{take-at}
-use Rattle.bits.specs.Lists.{Below}
+use Rattle.lists.specs.Lists.{Below}
 use Rattle.trees.specs.Nodes.{Node, label, blocks}
 use Rattle.trees.specs.Rules.{maxNodes}
 use Rattle.trees.specs.Rows.{Entry, rows}

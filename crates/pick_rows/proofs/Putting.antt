@@ -9,7 +9,7 @@ use lib.Seq.{take-all, take-length, length-take-le, paste, length-paste, take-pa
 use Rattle.trees.specs.Rules.{labelBytes}
 use Rattle.trees.specs.Rows.{Entry}
 use Rattle.tables.specs.Tables.{entryOf, entries, rowFits, firstBad, sum}
-use Rattle.lists.specs.Lists.{one-more}
+use Rattle.lists.specs.PartsLaws.{one-more}
 use Rattle.tables.specs.TablesLaws.{sum-append}
 use Rattle.prune_rows.specs.TableLaws.{entries-append, formed-more}
 use Rattle.prune_rows.specs.Marks.{gone, kept}

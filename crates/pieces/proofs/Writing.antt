@@ -7,7 +7,7 @@ use borrow.Rule.Slice.PartMut.{putMid}
 use lib.ListN.{length, take, drop, set, length-set}
 use lib.Seq.{take-all, paste, take-paste}
 use Rattle.trees.specs.Nodes.{piece}
-use Rattle.lists.specs.Lists.{filled, put-is}
+use Rattle.lists.specs.PartsLaws.{filled, put-is}
 
 -- first the type and the length, in four bytes
 abbrev pub headed : List ℕ → List ℕ → ℕ → ℕ → List ℕ

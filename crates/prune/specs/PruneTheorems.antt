@@ -8,8 +8,8 @@ use native.Mathlib.Omega.{arith}
 use borrow.Author.Tests.{eqb-true, eqb-false, le-ltb, ltb-true, ltb-false}
 use lib.Dec.{ltb, eqb}
 use lib.ListN.{length, getD, length-append}
-use Rattle.bits.specs.Lists.{Below}
-use Rattle.trees.specs.Lists.{same, same-refl, same-true}
+use Rattle.lists.specs.Lists.{Below, same}
+use Rattle.lists.specs.ListsLaws.{same-refl, same-true}
 use Rattle.trees.specs.Nodes.{Node, Run, inner, label, blocks}
 use Rattle.trees.specs.Rules.{labelBytes, WellFormed}
 use Rattle.trees.specs.RulesLaws.{le-all, le-size, le-well-formed}

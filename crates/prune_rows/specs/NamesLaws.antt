@@ -10,8 +10,9 @@ use native.Mathlib.Omega.{arith}
 use borrow.Author.Tests.{leb-true, ltb-true, ltb-false, eq-eqb, ne-eqb}
 use lib.Dec.{leb, ltb, eqb}
 use lib.ListN.{length, getD, take, length-map, List·getD-map, List·getD-eq-default}
-use Rattle.trees.specs.Tests.{and-left, and-right}
-use Rattle.trees.specs.Lists.{all, none-some, some-inj}
+use Rattle.lists.specs.TestsLaws.{and-left, and-right}
+use Rattle.lists.specs.Lists.{all}
+use Rattle.lists.specs.ListsLaws.{none-some, some-inj}
 use Rattle.trees.specs.Nodes.{Node, Run, inner, leaf, nil, cons, count, size, sizes}
 use Rattle.trees.specs.Rules.{maxChildren}
 use Rattle.trees.specs.Places.{Place, nodeAt, childAt, isDangling, Le, cut}

@@ -7,8 +7,8 @@ use native.Mathlib.Omega.{arith}
 use lib.Dec.{leb, eqb}
 use lib.ListN.{length}
 use borrow.Author.Tests.{leb-true, eqb-true, eq-eqb}
-use Rattle.trees.specs.Tests.{and-left, and-right, or-cases}
-use Rattle.trees.specs.Lists.{all}
+use Rattle.lists.specs.TestsLaws.{and-left, and-right, or-cases}
+use Rattle.lists.specs.Lists.{all}
 use Rattle.trees.specs.Nodes.{Node, Run, inner, leaf, nil, cons, typeOf, count, size, sizes, label, Head, heads}
 use Rattle.trees.specs.Rules.{saltType, saltBytes, isSalt, saltFirst, saltLong, saltThere, salted, All, AllIn, NodeRules, LeafRules}
 use Rattle.trees.specs.Rows.{Entry, node, tip, rows, rowsIn, prunedRows, prunedRowsIn}

@@ -8,7 +8,7 @@ use lib.Seq.{length-take-le, take-take}
 use Rattle.trees.specs.Rules.{maxValue, maxChildren, maxNodes}
 use Rattle.trees.specs.Rows.{kids, below}
 use Rattle.tables.specs.Records.{TreeTable}
-use Rattle.lists.specs.Lists.{next-cons, one-more, part}
+use Rattle.lists.specs.PartsLaws.{next-cons, one-more, part}
 use Rattle.send.specs.Blocks.{pieceSize, rowBlocks, blocksFrom, Enough, BlocksAsks, BlocksGives}
 use Rattle.send.specs.BlocksLaws.{blocks-tree}
 use Rattle.send.specs.SafeLaws.{enough-tree, table-low}

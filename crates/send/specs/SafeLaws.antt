@@ -8,7 +8,7 @@ use lib.Dec.{leb, eqb}
 use lib.ListN.{length, take, drop, getD}
 use lib.Seq.{length-take-le}
 use borrow.Author.Tests.{eqb-true, leb-true}
-use Rattle.trees.specs.Tests.{and-left, and-right, or-cases}
+use Rattle.lists.specs.TestsLaws.{and-left, and-right, or-cases}
 use Rattle.trees.specs.Nodes.{Node, Run, inner, leaf, nil, cons, count}
 use Rattle.trees.specs.Rules.{maxType, maxValue, maxChildren, labelBytes}
 use Rattle.trees.specs.Rows.{Entry, node, tip, rows, rowsIn}

@@ -7,7 +7,7 @@ use lib.ListN.{take, drop}
 use lib.Seq.{drop-drop}
 use Rattle.compression.specs.Kind.{Kind, size}
 use Rattle.compression.specs.Compression.{chain}
-use Rattle.lists.specs.Lists.{same-part, same-front}
+use Rattle.lists.specs.PartsLaws.{same-part, same-front}
 
 module _ (s : Kind) (h : List ℕ) where
   -- n blocks look at no more than n blocks

@@ -4,7 +4,7 @@ use mathlib.Core.Bool.{Bool, true}
 use mathlib.Core.List.{List, [], _∷_, _++_}
 use mathlib.Core.Path.{_≡_, refl, sym, subst}
 use lib.ListN.{length}
-use Rattle.bits.specs.Lists.{Below}
+use Rattle.lists.specs.Lists.{Below}
 use Rattle.trees.specs.Nodes.{Node, Run, inner, leaf, nil, cons, count, size}
 use Rattle.trees.specs.Rules.{maxNodes, maxBytes, countFits, All, AllIn, NodeRules, LeafRules, WellFormed}
 use Rattle.trees.specs.Rows.{Entry, node, rows, rowsIn}

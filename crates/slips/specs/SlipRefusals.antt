@@ -8,9 +8,9 @@ use borrow.Author.Tests.{eq-eqb, ne-eqb, eqb-true, eqb-false}
 use lib.Dec.{ltb, eqb}
 use lib.ListN.{length, drop}
 use Rattle.bits.specs.Bits.{bitsOf}
-use Rattle.bits.specs.Lists.{below-drop}
+use Rattle.lists.specs.ListsLaws.{below-drop}
 use Rattle.bits.specs.ByteLaws.{below-bitsOf}
-use Rattle.trees.specs.Lists.{all}
+use Rattle.lists.specs.Lists.{all}
 use Rattle.trees.specs.Nodes.{Node, typeOf}
 use Rattle.trees.specs.Rules.{maxBytes, childrenMissing, notComposed}
 use Rattle.trees.specs.Rows.{formed, Tag, tagOf, Verdict, faulty, left, verdict}

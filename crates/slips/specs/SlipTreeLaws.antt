@@ -7,7 +7,7 @@ use borrow.Author.Tests.{eq-eqb, eqb-true, eqb-false}
 use lib.Dec.{eqb}
 use lib.ListN.{length, drop}
 use Rattle.bits.specs.Bits.{bitsOf}
-use Rattle.bits.specs.Lists.{below-drop}
+use Rattle.lists.specs.ListsLaws.{below-drop}
 use Rattle.bits.specs.ByteLaws.{below-bitsOf}
 use Rattle.trees.specs.Nodes.{Node, typeOf, label, blocks}
 use Rattle.trees.specs.Rules.{WellFormed}

@@ -10,11 +10,11 @@ use lib.Pow.{pow-pos}
 use lib.ListN.{length, drop, replicate, length-replicate}
 use Rattle.refusals.specs.Chain.{chain-each}
 use Rattle.bits.specs.Bits.{bitsIn, bitsOf, numOf}
-use Rattle.bits.specs.Lists.{Below, below-drop}
+use Rattle.lists.specs.Lists.{Below, all}
+use Rattle.lists.specs.ListsLaws.{below-drop}
 use Rattle.bits.specs.FieldLaws.{bits-num, bits-zero, num-field}
 use Rattle.bits.specs.ByteLaws.{length-bitsOf, below-bitsOf}
-use Rattle.trees.specs.Lists.{all}
-use Rattle.trees.specs.Tests.{and-left, and-right, and-both}
+use Rattle.lists.specs.TestsLaws.{and-left, and-right, and-both}
 use Rattle.trees.specs.Nodes.{Node, inner, leaf, typeOf, size, label, blocks}
 use Rattle.trees.specs.Rules.{maxNodes, maxBytes, WellFormed}
 use Rattle.trees.specs.Rows.{Entry, formed, rows, Tag, tagOf, Verdict, faulty, left, verdict}

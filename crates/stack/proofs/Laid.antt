@@ -5,11 +5,10 @@ use mathlib.Core.List.{List, [], _∷_, _++_, map, map-append, append-nil}
 use native.Mathlib.Omega.{arith}
 use lib.ListN.{length, take, drop, set, length-append, length-drop}
 use lib.Seq.{take-at, drop-at, length-take-le}
-use Rattle.trees.specs.Lists.{map-take, map-drop}
+use Rattle.lists.specs.PartsLaws.{map-take, map-drop, filled, part, front}
 use Rattle.trees.specs.Nodes.{piece}
 use Rattle.trees.specs.Rows.{Tag, headOf, kids, below}
 use Rattle.tables.specs.Tables.{sum}
-use Rattle.lists.specs.Lists.{filled, part, front}
 use Rattle.faults.specs.Waiting.{kindOf, heightOf, sizeOf}
 use Rattle.stack.specs.Areas.{pieces, lastOf, Laid}
 use Rattle.stack.specs.PieceLaws.{pieces-append, pieces-split, length-split, length-pieces}

@@ -7,7 +7,7 @@ use native.Mathlib.Omega.{arith}
 use lib.Dec.{leb, ltb, eqb}
 use lib.ListN.{length, getD, take, List·getD-eq-default}
 use borrow.Author.Tests.{leb-true, leb-false, ltb-true, ltb-false, le-leb, lt-leb, lt-ltb, le-ltb, eq-eqb, ne-eqb, eqb-true}
-use Rattle.trees.specs.Tests.{and-left, and-right, and-both, or-cases}
+use Rattle.lists.specs.TestsLaws.{and-left, and-right, and-both, or-cases}
 use Rattle.tables.specs.Records.{named, firstFault}
 
 -- "strictly rising"

@@ -10,7 +10,7 @@ use lib.Seq.{drop-drop}
 use borrow.Author.Tests.{eqb-true, leb-true, ltb-false, not-true}
 use Rattle.trees.specs.Rules.{maxType, maxValue, maxChildren, labelBytes, maxNodes}
 use Rattle.trees.specs.Rows.{Entry}
-use Rattle.trees.specs.Tests.{and-left, and-right, or-cases}
+use Rattle.lists.specs.TestsLaws.{and-left, and-right, or-cases}
 use Rattle.tables.specs.Tables.{Table, columnsFit, rowBad, areaFits, tableFits, internalRow, danglingRow, pairRow, rowFits, firstBad, sum, entries, entryOf}
 
 -- columns that fit

@@ -8,7 +8,7 @@ use lib.Dec.{ltb}
 use lib.Seq.{take-all, take-length, length-take-le}
 use native.Mathlib.Omega.{arith}
 use borrow.Author.Tests.{lt-ltb, le-ltb, ltb-true, ltb-false}
-use Rattle.unicode.specs.Tests.{either, refuted}
+use Rattle.lists.specs.TestsLaws.{either, refuted}
 use Rattle.titles.specs.declared.Composed.{Composed}
 use Rattle.titles.specs.Refusals.{accepted, outputShort, titleLong, maxBytes}
 use Rattle.unicode.specs.Utf8.{decode}

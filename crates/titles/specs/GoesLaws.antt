@@ -9,7 +9,7 @@ use lib.Dec.{ltb, eqb}
 use lib.ListN.{length, take, drop, length-append, take-append-drop}
 use lib.Seq.{take-append-seam, drop-append-seam, take-append-add}
 use borrow.Author.Tests.{eqb-true, ltb-true, ltb-false}
-use Rattle.unicode.specs.Tests.{and-left, and-right, and-both, either, clash, refuted}
+use Rattle.lists.specs.TestsLaws.{and-left, and-right, and-both, either, clash, refuted}
 use Rattle.unicode.specs.Cons.{head}
 use Rattle.unicode.specs.Utf8.{ill, within, scalar, scalars, width, encode, encodes, front, decode}
 use Rattle.unicode.specs.Repertoire.{member, marks, isMark, plain, inRepertoire, allIn}
@@ -67,9 +67,9 @@ halts-bad (over {l} {m} {c} {pre} n h) xs = rw (pieces-join l m (joined l m) (pr
 halts-scalars : {pre : List ℕ} {c : ℕ} → Halts pre c → scalars pre ≡ true
 unfolding scalars
 halts-scalars (here p) = refl
-halts-scalars (past {l} p n h) = and-both (plain-scalar l p) (halts-scalars h)
+halts-scalars (past {l} p n h) = and-both _ _ (plain-scalar l p) (halts-scalars h)
 halts-scalars (over {l} {m} n h) =
-    and-both (plain-scalar l (letter-plain l m (joined l m) refl n)) (and-both (mark-scalar m (joins-mark l m (joined l m) refl n)) (halts-scalars h))
+    and-both _ _ (plain-scalar l (letter-plain l m (joined l m) refl n)) (and-both _ _ (mark-scalar m (joins-mark l m (joined l m) refl n)) (halts-scalars h))
 
 -- the refusal has the fault of c, at the bytes' end of pre
 halts-judged :

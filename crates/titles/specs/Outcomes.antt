@@ -8,7 +8,7 @@ use native.Mathlib.Omega.{arith}
 use lib.Dec.{ltb, eqb}
 use lib.ListN.{length, length-append}
 use borrow.Author.Tests.{le-ltb}
-use Rattle.unicode.specs.Tests.{either, clash}
+use Rattle.lists.specs.TestsLaws.{either, clash}
 use Rattle.titles.specs.Refusals.{accepted, outputShort, titleLong, maxBytes}
 use Rattle.unicode.specs.Utf8.{ill, width, encode, encodes, decode}
 use Rattle.unicode.specs.Repertoire.{isMark}

@@ -8,7 +8,7 @@ use lib.Dec.{ltb, eqb}
 use lib.ListN.{length, getD, drop, length-drop, drop-of-length-le}
 use lib.Seq.{drop-drop}
 use borrow.Author.Tests.{ltb-true, ltb-false, eq-eqb, ne-eqb, eqb-true}
-use Rattle.unicode.specs.Tests.{either}
+use Rattle.lists.specs.TestsLaws.{either}
 use Rattle.unicode.specs.Utf8.{ill, width, character, front, decode}
 use Rattle.unicode.specs.Repertoire.{plain, allPlain}
 use Rattle.unicode.specs.Joining.{joined, Piece, bad, one, two, pieces}

@@ -8,7 +8,7 @@ use lib.Dec.{ltb, eqb}
 use lib.ListN.{length, take, drop, length-append}
 use lib.Seq.{take-append-seam, take-at}
 use borrow.Author.Tests.{le-ltb, lt-ltb, ltb-false, eqb-true, eqb-false}
-use Rattle.unicode.specs.Tests.{and-left, and-right, and-both, either}
+use Rattle.lists.specs.TestsLaws.{and-left, and-right, and-both, either}
 use Rattle.titles.specs.Refusals.{accepted, maxBytes}
 use Rattle.titles.specs.declared.Composed.{Composed}
 use Rattle.unicode.specs.Utf8.{scalar, scalars, width, encode, encodes, decode}
@@ -86,15 +86,15 @@ mark-scalar m k = rw (lt-ltb m 0xD800 (omega (arith, at-most 0x300 0x33F m (mark
 composes-scalars : {cs os : List ℕ} → Composes cs os → scalars cs ≡ true
 unfolding scalars
 composes-scalars done = refl
-composes-scalars (stay {c} p h) = and-both (plain-scalar c p) (composes-scalars h)
+composes-scalars (stay {c} p h) = and-both _ _ (plain-scalar c p) (composes-scalars h)
 composes-scalars (join {l} {m} {w} e n h) =
-    and-both (plain-scalar l (letter-plain l m w e n)) (and-both (mark-scalar m (joins-mark l m w e n)) (composes-scalars h))
+    and-both _ _ (plain-scalar l (letter-plain l m w e n)) (and-both _ _ (mark-scalar m (joins-mark l m w e n)) (composes-scalars h))
 
 plain-scalars : (cs : List ℕ) → allPlain cs ≡ true → scalars cs ≡ true
 unfolding allPlain scalars
 plain-scalars [] e = refl
 plain-scalars (c ∷ cs) e =
-    and-both (plain-scalar c (and-left (plain c) _ e)) (plain-scalars cs (and-right (plain c) _ e))
+    and-both _ _ (plain-scalar c (and-left (plain c) _ e)) (plain-scalars cs (and-right (plain c) _ e))
 
 -- composing makes no text longer
 sizes : {cs os : List ℕ} → Composes cs os → length (encodes os) ≤ length (encodes cs)
@@ -132,7 +132,7 @@ pub title-nfc :
     → outcome title out ≡ acceptedWith (encodes (nfc (decode title))) out
 unfolding text
 title-nfc title out under known e room =
-    let a = accepts-nfc (decode title) ∙ and-both known e in
+    let a = accepts-nfc (decode title) ∙ and-both _ _ known e in
     taken title _ out (le-ltb maxBytes (length title) under) a (ap encodes (sym (nfc-composed (decode title) a))) room
 
 pub accepted-nfc :

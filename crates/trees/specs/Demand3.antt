@@ -7,7 +7,7 @@ use mathlib.Core.Option.{Option, some}
 use Prim.Native.Nat.{ℕ}
 use native.Mathlib.Omega.{arith}
 use lib.ListN.{length}
-use Rattle.trees.specs.Lists.{none-some}
+use Rattle.lists.specs.ListsLaws.{none-some}
 use Rattle.trees.specs.Nodes.{Node, label}
 use Rattle.trees.specs.Rules.{labelBytes, WellFormed}
 use Rattle.trees.specs.Places.{Place, Fact, opened, tells, Le}

@@ -5,7 +5,7 @@ use mathlib.Core.Bool.{Bool, true, false, cond, false≢true}
 use mathlib.Core.List.{List, [], _∷_, _++_, List·Memᴰ, List·Memᴰ·head, List·Memᴰ·tail}
 use mathlib.Core.Option.{Option, none, some}
 use Prim.Native.Nat.{ℕ}
-use Rattle.trees.specs.Tests.{or-left, or-right, or-cases}
+use Rattle.lists.specs.TestsLaws.{or-left, or-right, or-cases}
 use Rattle.trees.specs.Nodes.{Node}
 use Rattle.trees.specs.Places.{Place, Fact, tells, Le}
 use Rattle.trees.specs.OrderLaws.{le-refl, le-trans, le-type, le-label}

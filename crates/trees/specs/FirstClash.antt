@@ -6,7 +6,8 @@ use mathlib.Core.List.{List, [], _∷_}
 use mathlib.Core.Option.{some}
 use Prim.Native.Nat.{ℕ, zero, suc}
 use native.Mathlib.Omega.{arith}
-use Rattle.trees.specs.Lists.{same, same-true}
+use Rattle.lists.specs.Lists.{same}
+use Rattle.lists.specs.ListsLaws.{same-true}
 use Rattle.trees.specs.Nodes.{Node, Run, inner, leaf, nil, cons, prelabel, heads}
 use Rattle.trees.specs.Places.{Place, nodeAt, opened, tells}
 use Rattle.trees.specs.PlacesLaws.{leaf-shut, opened-inj, opened-at, at-opened}

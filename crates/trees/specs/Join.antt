@@ -5,7 +5,7 @@ use mathlib.Core.Bool.{cond}
 use mathlib.Core.List.{List, [], _∷_}
 use mathlib.Core.Option.{Option, some}
 use Prim.Native.Nat.{ℕ, suc, _<_}
-use Rattle.trees.specs.Lists.{same}
+use Rattle.lists.specs.Lists.{same}
 use Rattle.trees.specs.Nodes.{Node, Run, inner, leaf, nil, cons, typeOf, prelabel, label, heads}
 use Rattle.trees.specs.Rules.{clashing}
 use Rattle.trees.specs.Places.{Place, nodeAt, Fact, opened, tells, tellsIn, Le, LeIn, Shared, SharedIn}

@@ -3,7 +3,8 @@ use mathlib.Core.Path.{_≡_, refl, sym, ap, ap₂, _∙_}
 use mathlib.Core.Bool.{Bool, true, false, cond}
 use mathlib.Core.List.{List, []}
 use Prim.Native.Nat.{ℕ}
-use Rattle.trees.specs.Lists.{same, same-refl, same-comm, same-true, cons-tail, nil-cons}
+use Rattle.lists.specs.Lists.{same}
+use Rattle.lists.specs.ListsLaws.{same-refl, same-comm, same-true, cons-tail, nil-cons}
 use Rattle.trees.specs.Nodes.{Node, Run, inner, leaf, nil, cons, prelabel, heads}
 use Rattle.trees.specs.NodesLaws.{prelabel-inj}
 use Rattle.trees.specs.Places.{Le}

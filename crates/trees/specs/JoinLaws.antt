@@ -5,7 +5,8 @@ use mathlib.Core.Bool.{Bool, true, false, cond}
 use mathlib.Core.List.{List, [], _∷_}
 use mathlib.Core.Option.{some}
 use Prim.Native.Nat.{ℕ, zero, suc}
-use Rattle.trees.specs.Lists.{same, same-true, same-false, cons-head, cons-tail, nil-cons}
+use Rattle.lists.specs.Lists.{same}
+use Rattle.lists.specs.ListsLaws.{same-true, same-false, cons-head, cons-tail, nil-cons}
 use Rattle.trees.specs.Nodes.{Node, Run, inner, leaf, nil, cons, Head, prelabel, label, heads}
 use Rattle.trees.specs.NodesLaws.{prelabel-inj}
 use Rattle.trees.specs.Places.{Place, Fact, opened, tells, tellsIn, Le, LeIn, Shared, SharedIn}

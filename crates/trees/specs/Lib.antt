@@ -29,6 +29,3 @@ pub mod RefusedLaws
 pub mod Replies
 pub mod EndsLaws
 pub mod Demand3
--- Laws of plain Bools and lists:
-pub mod Tests
-pub mod Lists

@@ -4,7 +4,7 @@ use mathlib.Core.List.{List, [], _∷_, _++_}
 use Prim.Native.Nat.{ℕ, _/_, _%_}
 use lib.ListN.{length}
 use native.Mathlib.Omega.{arith}
-use Rattle.trees.specs.Lists.{append-cancel, nil-cons}
+use Rattle.lists.specs.ListsLaws.{append-cancel, nil-cons}
 use Rattle.trees.specs.Nodes.{Head, piece, prelabel}
 
 -- a number is known by its two bytes, of which the first may be any

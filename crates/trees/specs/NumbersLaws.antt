@@ -9,7 +9,7 @@ use lib.Dec.{ltb}
 use lib.ListN.{length, getD, length-append}
 use lib.Seq.{getD-at}
 use borrow.Author.Tests.{ltb-true, ltb-false}
-use Rattle.trees.specs.Lists.{none-some, some-inj}
+use Rattle.lists.specs.ListsLaws.{none-some, some-inj}
 use Rattle.trees.specs.Nodes.{Node, Run, inner, leaf, nil, cons, count, size, sizes, label}
 use Rattle.trees.specs.Places.{Place, nodeAt, childAt, cut, cutIn}
 use Rattle.trees.specs.Rows.{Entry, node, tip, rows, rowsIn, lastRow, number, numberIn, prunedRows, prunedRowsIn}

@@ -4,7 +4,7 @@ use mathlib.Core.Logic.{_↔_}
 use mathlib.Core.List.{List, [], _∷_}
 use mathlib.Core.Option.{some}
 use Prim.Native.Nat.{ℕ, zero, suc}
-use Rattle.trees.specs.Lists.{none-some, some-inj, cons-head, cons-tail, nil-cons}
+use Rattle.lists.specs.ListsLaws.{none-some, some-inj, cons-head, cons-tail, nil-cons}
 use Rattle.trees.specs.Nodes.{Node, Run, inner, leaf, nil, cons, typeOf, Head, prelabel, label, heads}
 use Rattle.trees.specs.NodesLaws.{prelabel-inj}
 use Rattle.trees.specs.Places.{Place, nodeAt, childAt, Fact, opened, leafTells, tells, tellsIn, Le, LeIn}

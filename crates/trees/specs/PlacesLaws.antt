@@ -4,7 +4,7 @@ use mathlib.Core.List.{List, [], _∷_}
 use mathlib.Core.Option.{some}
 use Prim.Native.Nat.{ℕ, zero, suc}
 use native.Mathlib.Omega.{arith}
-use Rattle.trees.specs.Lists.{none-some, some-inj}
+use Rattle.lists.specs.ListsLaws.{none-some, some-inj}
 use Rattle.trees.specs.Nodes.{Node, Run, inner, leaf, nil, cons, prelabel, heads}
 use Rattle.trees.specs.Places.{Place, nodeAt, childAt, opened, paired, leafTells, tells, tellsIn}
 

@@ -7,8 +7,9 @@ use Prim.Native.Nat.{ℕ, zero, suc}
 use lib.Dec.{eqb, eqb·suc-suc}
 use borrow.Author.Tests.{not-true}
 use native.Mathlib.Omega.{arith}
-use Rattle.trees.specs.Tests.{and-left, and-right, and-both}
-use Rattle.trees.specs.Lists.{same, same-true, none-some, some-inj}
+use Rattle.lists.specs.TestsLaws.{and-left, and-right, and-both}
+use Rattle.lists.specs.Lists.{same}
+use Rattle.lists.specs.ListsLaws.{same-true, none-some, some-inj}
 use Rattle.trees.specs.Nodes.{Node, Run, inner, leaf, nil, cons, prelabel, label, heads}
 use Rattle.trees.specs.Places.{Place, nodeAt, childAt, isDangling, stays, Le, LeIn, cut, cutIn, EqualBut, EqualButIn}
 use Rattle.trees.specs.PlacesLaws.{at-root, leaf-inner}

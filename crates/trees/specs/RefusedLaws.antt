@@ -7,7 +7,7 @@ use native.Mathlib.Nat.{add-zero, zero-add}
 use native.Mathlib.Omega.{arith}
 use lib.ListN.{length, length-append, length-map}
 use borrow.Author.Tests.{lt-ltb, le-ltb}
-use Rattle.trees.specs.Lists.{all}
+use Rattle.lists.specs.Lists.{all}
 use Rattle.trees.specs.Nodes.{Node, size, highest, heads, blocks}
 use Rattle.trees.specs.Rules.{maxHeight, childrenMissing, notComposed}
 use Rattle.trees.specs.Rows.{Entry, node, formed, rows, kids, below, Tag, headOf, highestOf, Step, fault, faulty, left, onward, tagOf, hashed, stepOf, judged, verdict, grown}

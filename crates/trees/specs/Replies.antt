@@ -5,7 +5,7 @@ use mathlib.Core.Bool.{Bool, true, false, cond, true≢false}
 use mathlib.Core.List.{List}
 use mathlib.Core.Option.{Option, none, some}
 use Prim.Native.Nat.{ℕ}
-use Rattle.trees.specs.Lists.{none-some, some-inj}
+use Rattle.lists.specs.ListsLaws.{none-some, some-inj}
 use Rattle.trees.specs.Nodes.{Node}
 use Rattle.trees.specs.Places.{Place, Fact, tells, Le}
 use Rattle.trees.specs.OrderLaws.{le-refl}

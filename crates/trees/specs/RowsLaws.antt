@@ -5,7 +5,7 @@ use Prim.Native.Nat.{ℕ, suc, _+_, _-_}
 use native.Mathlib.Omega.{arith}
 use lib.ListN.{length, length-append}
 use lib.Seq.{take-at, drop-at}
-use Rattle.trees.specs.Lists.{cons-head}
+use Rattle.lists.specs.ListsLaws.{cons-head}
 use Rattle.trees.specs.Nodes.{Node, Run, inner, leaf, nil, cons, count, size, sizes}
 use Rattle.trees.specs.Rows.{Entry, node, rows, rowsIn, kids, below, runOf, grown}
 

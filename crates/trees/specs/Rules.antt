@@ -5,7 +5,7 @@ use mathlib.Core.List.{List, [], _∷_}
 use Prim.Native.Nat.{ℕ, zero, suc, _≤_}
 use lib.Dec.{leb, eqb}
 use lib.ListN.{length}
-use Rattle.trees.specs.Lists.{all}
+use Rattle.lists.specs.Lists.{all}
 use Rattle.trees.specs.Nodes.{Node, Run, inner, leaf, nil, cons, typeOf, height, Head, heads}
 
 -- "A node has a type from 0 to 1,023."

@@ -6,7 +6,8 @@ use Prim.Native.Nat.{ℕ, _≤_, max}
 use native.Mathlib.Omega.{arith}
 use lib.ListN.{length}
 use borrow.Author.Tests.{eq-eqb}
-use Rattle.trees.specs.Lists.{same, same-true}
+use Rattle.lists.specs.Lists.{same}
+use Rattle.lists.specs.ListsLaws.{same-true}
 use Rattle.trees.specs.Nodes.{Node, Run, inner, leaf, nil, cons, Head, prelabel, label, heads, height, highest, size, sizes}
 use Rattle.trees.specs.NodesLaws.{prelabel-inj}
 use Rattle.trees.specs.Rules.{All, AllIn, labelBytes, NodeRules, LeafRules, WellFormed}

@@ -7,8 +7,9 @@ use native.Mathlib.Nat.{add-zero, zero-add}
 use native.Mathlib.Omega.{arith}
 use lib.ListN.{length, length-append, length-map}
 use borrow.Author.Tests.{le-ltb}
-use Rattle.trees.specs.Tests.{and-both}
-use Rattle.trees.specs.Lists.{all, all-append}
+use Rattle.lists.specs.TestsLaws.{and-both}
+use Rattle.lists.specs.Lists.{all}
+use Rattle.lists.specs.ListsLaws.{all-append}
 use Rattle.trees.specs.Nodes.{Node, Run, inner, leaf, nil, cons, count, size, sizes, height, highest, Head, prelabel, heads, blocksOf, blocks, blocksIn}
 use Rattle.trees.specs.Rules.{maxHeight, salted, countFits, leafFits, All, AllIn, NodeRules, LeafRules, WellFormed}
 use Rattle.trees.specs.Rows.{Entry, node, formed, rows, rowsIn, runOf, Tag, headOf, highestOf, Step, next, left, onward, tagOf, hashed, stepOf, judged, verdict}

@@ -8,8 +8,10 @@ use native.Mathlib.Omega.{arith}
 use lib.Dec.{ltb}
 use lib.ListN.{length, take, drop, length-append, length-map}
 use borrow.Author.Tests.{ltb-true, ltb-false}
-use Rattle.trees.specs.Tests.{and-left, and-right}
-use Rattle.trees.specs.Lists.{all, cons-head, cons-tail, nil-cons, map-take, map-drop}
+use Rattle.lists.specs.TestsLaws.{and-left, and-right}
+use Rattle.lists.specs.Lists.{all}
+use Rattle.lists.specs.ListsLaws.{cons-head, cons-tail, nil-cons}
+use Rattle.lists.specs.PartsLaws.{map-take, map-drop}
 use Rattle.trees.specs.Nodes.{Node, inner, leaf, height, highest, prelabel, heads, blocksOf, blocks}
 use Rattle.trees.specs.Rules.{maxHeight, childrenMissing, notComposed, salted, countFits, textFits, Fit, WellFormed}
 use Rattle.trees.specs.Rows.{Entry, node, tip, formed, rows, kids, below, grow, grown, Tag, headOf, highestOf, Step, fault, next, Verdict, faulty, left, onward, tagOf, hashed, stepOf, judged, verdict}

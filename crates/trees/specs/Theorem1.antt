@@ -5,7 +5,8 @@ use mathlib.Core.Bool.{Bool, true, false}
 use mathlib.Core.List.{List, [], _∷_}
 use mathlib.Core.Option.{some}
 use Prim.Native.Nat.{ℕ, suc}
-use Rattle.trees.specs.Lists.{same, same-true, cons-tail, nil-cons}
+use Rattle.lists.specs.Lists.{same}
+use Rattle.lists.specs.ListsLaws.{same-true, cons-tail, nil-cons}
 use Rattle.trees.specs.Nodes.{Node, Run, inner, leaf, nil, cons, prelabel, label, heads}
 use Rattle.trees.specs.NodesLaws.{prelabel-inj}
 use Rattle.trees.specs.Places.{Place, nodeAt, childAt, opened, tells, tellsIn, Le, LeIn, Shared, SharedIn}

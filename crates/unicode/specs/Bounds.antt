@@ -5,7 +5,7 @@ use mathlib.Core.List.{[], _∷_}
 use Prim.Native.Nat.{ℕ, _≤_, _<_, _+_, _/_}
 use lib.Dec.{leb}
 use borrow.Author.Tests.{le-leb, lt-leb, leb-true, lt-ltb, le-ltb}
-use Rattle.unicode.specs.Tests.{and-left, and-right}
+use Rattle.lists.specs.TestsLaws.{and-left, and-right}
 use Rattle.unicode.specs.Utf8.{within, width, follow, encode}
 
 pub inside : (lo hi b : ℕ) → lo ≤ b → b ≤ hi → within lo hi b ≡ true

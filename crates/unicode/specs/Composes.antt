@@ -5,7 +5,7 @@ use mathlib.Core.Bool.{true, false}
 use mathlib.Core.List.{List, [], _∷_}
 use Prim.Native.Nat.{ℕ}
 use lib.Dec.{eqb}
-use Rattle.unicode.specs.Tests.{and-left, and-right, and-both, either, clash}
+use Rattle.lists.specs.TestsLaws.{and-left, and-right, and-both, either, clash}
 use Rattle.unicode.specs.Repertoire.{isMark, plain, allPlain}
 use Rattle.unicode.specs.Joining.{joined, one, two, pieces, outs, noneBad, accepts, composed}
 use Rattle.unicode.specs.Rows.{joint}
@@ -69,8 +69,8 @@ composes-composed (join {l} {m} {w} {cs} e n h) = rw (pieces-join l m w cs e n, 
 pub composes-plain : {cs os : List ℕ} → Composes cs os → allPlain os ≡ true
 unfolding allPlain
 composes-plain done = refl
-composes-plain (stay p h) = and-both p (composes-plain h)
-composes-plain (join {l} {m} {w} e n h) = and-both (whole-plain l m w e n) (composes-plain h)
+composes-plain (stay p h) = and-both _ _ p (composes-plain h)
+composes-plain (join {l} {m} {w} e n h) = and-both _ _ (whole-plain l m w e n) (composes-plain h)
 
 -- a plain text composes to itself
 pub plain-composes : (cs : List ℕ) → allPlain cs ≡ true → Composes cs cs

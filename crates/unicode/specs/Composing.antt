@@ -5,7 +5,7 @@ use mathlib.Core.List.{List, [], _∷_, _++_}
 use Prim.Native.Nat.{ℕ}
 use lib.Dec.{eqb}
 use borrow.Author.Tests.{eq-eqb}
-use Rattle.unicode.specs.Tests.{and-left, and-right, and-both, either, clash, refuted}
+use Rattle.lists.specs.TestsLaws.{and-left, and-right, and-both, either, clash, refuted}
 use Rattle.unicode.specs.Repertoire.{plain, allPlain}
 use Rattle.unicode.specs.Pairs.{pairs}
 use Rattle.unicode.specs.Nfc.{classOf, blocked, composite, composing, composedFrom}
@@ -65,7 +65,7 @@ from-composes (join {l} {m} {w} {cs} e n h) =
 plain-left : (xs ys : List ℕ) → allPlain (xs ++ ys) ≡ true → allPlain xs ≡ true
 unfolding allPlain
 plain-left [] ys e = refl
-plain-left (x ∷ xs) ys e = and-both (and-left (plain x) _ e) (plain-left xs ys (and-right (plain x) _ e))
+plain-left (x ∷ xs) ys e = and-both _ _ (and-left (plain x) _ e) (plain-left xs ys (and-right (plain x) _ e))
 
 -- what has stayed after a starter stays to the end
 kept : (l : ℕ) (k cs : List ℕ) → allPlain (composing l k cs) ≡ true → allPlain k ≡ true

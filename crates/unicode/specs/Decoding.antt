@@ -9,7 +9,7 @@ use lib.ListN.{length, drop, length-append, length-drop}
 use lib.Seq.{drop-at}
 use borrow.Author.Tests.{ne-eqb, not-true}
 use Rattle.unicode.specs.Cons.{head, tail}
-use Rattle.unicode.specs.Tests.{and-left, and-right, and-both, either, clash}
+use Rattle.lists.specs.TestsLaws.{and-left, and-right, and-both, either, clash}
 use Rattle.unicode.specs.Utf8.{ill, scalar, scalars, wellFormed, width, encode, encodes, front, chars, decode}
 use Rattle.unicode.specs.Sequences.{front-starts}
 use Rattle.unicode.specs.Encodings.{scalar-below, front-encode}
@@ -166,7 +166,7 @@ read-scalars [] e w = refl
 read-scalars (c ∷ cs) e w =
     let q = not-true (eqb c ill) (and-left (not (eqb c ill)) _ w) in
     let s : scalar c ≡ true = either (scalar c) (λ p. p) (λ p. absurd (clash (and-left (scalar c || eqb c ill) _ e) (rw (p, q)))) in
-    and-both s (read-scalars cs (and-right (scalar c || eqb c ill) _ e) (and-right (not (eqb c ill)) _ w))
+    and-both _ _ s (read-scalars cs (and-right (scalar c || eqb c ill) _ e) (and-right (not (eqb c ill)) _ w))
 
 scalars-well : (cs : List ℕ) → scalars cs ≡ true → wellFormed cs ≡ true
 unfolding scalars wellFormed

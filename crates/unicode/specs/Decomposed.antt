@@ -8,7 +8,7 @@ use lib.Dec.{eqb}
 use lib.ListN.{length}
 use borrow.Author.Tests.{ne-eqb}
 use Rattle.unicode.specs.Cons.{head, tail}
-use Rattle.unicode.specs.Tests.{either, clash}
+use Rattle.lists.specs.TestsLaws.{either, clash}
 use Rattle.unicode.specs.Utf8.{within}
 use Rattle.unicode.specs.Repertoire.{isMark, plain}
 use Rattle.unicode.specs.Decompositions.{decompositions}

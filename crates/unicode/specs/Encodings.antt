@@ -7,7 +7,7 @@ use native.Mathlib.Omega.{arith}
 use lib.Dec.{ltb, leb, eqb}
 use lib.ListN.{getD}
 use borrow.Author.Tests.{lt-ltb, le-ltb, ltb-true, ltb-false, leb-true, eqb-true}
-use Rattle.unicode.specs.Tests.{and-left, and-right, either}
+use Rattle.lists.specs.TestsLaws.{and-left, and-right, either}
 use Rattle.unicode.specs.Utf8.{ill, scalar, follow, encode, low, high, tail, twoBytes, threeBytes, fourBytes, front}
 use Rattle.unicode.specs.Bounds.{inside, encode-1, encode-2}
 use Rattle.unicode.specs.Fronts.{character-1, character-2, character-3, character-4}

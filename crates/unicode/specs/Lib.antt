@@ -4,7 +4,6 @@ pub mod Pairs
 pub mod Decompositions
 pub mod Nfc
 pub mod Joining
-pub mod Tests
 pub mod Cons
 pub mod Bounds
 pub mod Fronts

@@ -6,7 +6,7 @@ use Prim.Native.Nat.{ℕ, _<_}
 use native.Mathlib.Omega.{arith}
 use lib.Dec.{eqb}
 use borrow.Author.Tests.{eqb-true, not-true}
-use Rattle.unicode.specs.Tests.{and-left, and-right, either, clash, refuted}
+use Rattle.lists.specs.TestsLaws.{and-left, and-right, either, clash, refuted}
 use Rattle.unicode.specs.Utf8.{within}
 use Rattle.unicode.specs.Repertoire.{member, marks, isMark, plain}
 use Rattle.unicode.specs.Decompositions.{Class, class, decompositions, classes}

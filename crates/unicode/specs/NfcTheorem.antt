@@ -3,7 +3,7 @@ use mathlib.Core.Path.{_≡_, refl, sym, _∙_, subst}
 use mathlib.Core.Bool.{true, _&&_}
 use mathlib.Core.List.{List}
 use Prim.Native.Nat.{ℕ}
-use Rattle.unicode.specs.Tests.{and-right, and-both, same-test}
+use Rattle.lists.specs.TestsLaws.{and-right, and-both, same-test}
 use Rattle.unicode.specs.Repertoire.{isMark, plain, allPlain, inRepertoire, allIn}
 use Rattle.unicode.specs.Nfc.{decomposed, ordered, composedFrom, nfc}
 use Rattle.unicode.specs.Joining.{accepts, composed}
@@ -40,16 +40,16 @@ mark-in m k = rw (mark-not-plain m k, k)
 composes-in : {cs os : List ℕ} → Composes cs os → allIn cs ≡ true
 unfolding allIn
 composes-in done = refl
-composes-in (stay {c} p h) = and-both (plain-in c p) (composes-in h)
+composes-in (stay {c} p h) = and-both _ _ (plain-in c p) (composes-in h)
 composes-in (join {l} {m} {w} e n h) =
-    and-both (plain-in l (letter-plain l m w e n)) (and-both (mark-in m (joins-mark l m w e n)) (composes-in h))
+    and-both _ _ (plain-in l (letter-plain l m w e n)) (and-both _ _ (mark-in m (joins-mark l m w e n)) (composes-in h))
 
 -- lengths aside, a text is accepted exactly when all its characters are in the repertoire, where `nfc` is Unicode's, and its NFC is composed
 -- text. (U+212B has a plain NFC by Unicode's data, and is outside the repertoire.)
 pub accepts-nfc : (cs : List ℕ) → accepts cs ≡ (allIn cs && allPlain (nfc cs))
 accepts-nfc cs =
     same-test (accepts cs) (allIn cs && allPlain (nfc cs))
-    (λ e. let h = accepts-composes cs e in and-both (composes-in h) (rw (composes-nfc h) (composes-plain h)))
+    (λ e. let h = accepts-composes cs e in and-both _ _ (composes-in h) (rw (composes-nfc h) (composes-plain h)))
     (λ e. composes-accepts (nfc-composes cs (and-right (allIn cs) _ e)))
 
 pub accepts-in : (cs : List ℕ) → accepts cs ≡ true → allIn cs ≡ true

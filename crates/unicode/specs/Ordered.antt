@@ -6,7 +6,7 @@ use Prim.Native.Nat.{ℕ}
 use native.Mathlib.Omega.{arith}
 use lib.Dec.{ltb}
 use borrow.Author.Tests.{lt-ltb, ltb-true}
-use Rattle.unicode.specs.Tests.{and-left, and-right, either, clash}
+use Rattle.lists.specs.TestsLaws.{and-left, and-right, either, clash}
 use Rattle.unicode.specs.Repertoire.{plain}
 use Rattle.unicode.specs.Nfc.{classOf, reorderable, moved, ordered}
 use Rattle.unicode.specs.Marks.{plain-class}

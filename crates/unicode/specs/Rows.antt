@@ -7,7 +7,7 @@ use native.Mathlib.Omega.{arith}
 use lib.Dec.{eqb}
 use lib.ListN.{length}
 use borrow.Author.Tests.{eqb-true, ne-eqb, not-true}
-use Rattle.unicode.specs.Tests.{and-left, and-right, either, clash}
+use Rattle.lists.specs.TestsLaws.{and-left, and-right, either, clash}
 use Rattle.unicode.specs.Utf8.{within}
 use Rattle.unicode.specs.Repertoire.{member, marks, isMark, plain}
 use Rattle.unicode.specs.Pairs.{Pair, pair, found, pairs}

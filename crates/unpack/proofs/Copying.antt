@@ -9,7 +9,7 @@ use borrow.Author.Tests.{lt-ltb, le-ltb, ltb-false, eq-eqb, ne-eqb}
 use lib.Dec.{ltb}
 use lib.ListN.{length, take, drop, getD, set}
 use lib.Seq.{drop-cons, take-suc, set-at, append-snoc, length-take-le, take-length}
-use Rattle.trees.specs.Tests.{or-left, or-right}
+use Rattle.lists.specs.TestsLaws.{or-left, or-right}
 use Rattle.tables.specs.Tables.{Table}
 use Rattle.tables.specs.Refusals.{accepted, noRoom}
 use Rattle.slips.specs.declared.answer.Answer.{Answer}

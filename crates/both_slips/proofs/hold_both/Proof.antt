@@ -6,7 +6,7 @@ use borrow.Table.Elements.{same-len}
 use denote.Ref.{now}
 use lib.ListN.{length, drop}
 use lib.Seq.{length-take-le, take-append-le}
-use Rattle.trees.specs.Lists.{same-true}
+use Rattle.lists.specs.ListsLaws.{same-true}
 use Rattle.slips.specs.declared.answer.Answer.{Answer}
 use Rattle.slips.specs.Check.{countOf}
 use Rattle.slips.specs.HoldingLaws.{Rooms, holds-tree}

@@ -3,7 +3,7 @@ use denote.Ref.{now}
 use mathlib.Core.Path.{_≡_, refl}
 use native.Mathlib.Omega.{arith}
 use lib.ListN.{length}
-use Rattle.lists.specs.Lists.{put-is}
+use Rattle.lists.specs.PartsLaws.{put-is}
 use Rattle.pick_rows.proofs.Putting.{written-more}
 use borrow.Author.Needs.{needs}
 use Rattle.pick_rows.proofs.put.Statement.{statement}

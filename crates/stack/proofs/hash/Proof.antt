@@ -6,7 +6,7 @@ use borrow.Author.Needs.{needs}
 use denote.Ref.{now}
 use lib.ListN.{length, drop, length-take, length-drop}
 use Rattle.trees.specs.Rules.{labelBytes}
-use Rattle.lists.specs.Lists.{put-is}
+use Rattle.lists.specs.PartsLaws.{put-is}
 use Rattle.stack.proofs.Hashing.{there, counted, parent-fits, prelabel-small, blocks-fit, parent-label, parent-room, node-grows}
 use Rattle.stack.proofs.hash.Statement.{statement}
 use Rattle.stack.proofs.hash.Tie as tie

@@ -3,7 +3,7 @@ use Prim.Native.Nat.{_-_, _%_}
 use native.Mathlib.Omega.{arith}
 use borrow.Author.Needs.{needs}
 use lib.Pow.{pow-pos}
-use Rattle.bits.specs.Lists.{Below}
+use Rattle.lists.specs.Lists.{Below}
 use Rattle.bits.proofs.Strokes.{finished}
 use Rattle.bits.proofs.pen.finish.Statement.{statement}
 use Rattle.bits.proofs.pen.finish.Tie as tie

@@ -4,7 +4,7 @@ use Prim.Native.Nat.{ℕ, _+_, _*_, _/_, _%_}
 use native.Mathlib.Omega.{arith}
 use borrow.Author.Needs.{needs}
 use lib.ListN.{length, drop}
-use Rattle.bits.specs.Lists.{Below}
+use Rattle.lists.specs.Lists.{Below}
 use Rattle.bits.specs.Bits.{bitsOf, octets}
 use Rattle.bits.proofs.Windows.{whole-bytes}
 use Rattle.bits.proofs.read.copy.Statement.{statement}

@@ -4,8 +4,7 @@ use native.Mathlib.Omega.{arith}
 use borrow.Author.Needs.{needs}
 use lib.ListN.{length, length-set}
 use Rattle.unicode.specs.Bounds.{width-1, width-2, encode-1, encode-2}
-use Rattle.lists.specs.Lists.{one-more}
-use Rattle.characters.proofs.Lists.{take-stores}
+use Rattle.lists.specs.PartsLaws.{one-more, take-stores}
 use Rattle.unicode.specs.Utf8.{follow}
 use Rattle.characters.proofs.utf8.put.Statement.{statement}
 use Rattle.characters.proofs.utf8.put.Tie as tie

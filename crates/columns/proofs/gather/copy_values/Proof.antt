@@ -7,7 +7,8 @@ use native.Mathlib.Omega.{arith}
 use borrow.Rule.Slice.PartMut.{midOf, postOf, same-len-mid}
 use Rattle.tables.specs.Tables.{sum}
 use Rattle.columns.specs.Columns.{valueAt}
-use Rattle.columns.specs.Gathers.{concat, cellOf}
+use Rattle.lists.specs.Lists.{concat}
+use Rattle.columns.specs.Gathers.{cellOf}
 use Rattle.columns.proofs.Gathering.{sum-step, sum-end, values-more, values-done, copied, value-is, value-long}
 use borrow.Author.Needs.{needs}
 use Rattle.columns.proofs.gather.copy_values.Statement.{statement}

@@ -3,7 +3,7 @@ use denote.Ref.{now}
 use lib.ListN.{length, drop}
 use mathlib.Core.Path.{_≡_, refl, sym, _∙_}
 use native.Mathlib.Omega.{arith}
-use Rattle.trees.specs.Lists.{same}
+use Rattle.lists.specs.Lists.{same}
 use Rattle.columns.proofs.Comparing.{same-lengths, same-here, same-later, same-ends}
 use borrow.Author.Needs.{needs}
 use Rattle.columns.proofs.heads.same.Statement.{statement}

@@ -1,6 +1,6 @@
 use borrow.Author.Tests.{eq-eqb, ne-eqb}
 use mathlib.Core.Path.{ap₂, _∙_}
-use Rattle.trees.specs.Lists.{same}
+use Rattle.lists.specs.Lists.{same}
 use borrow.Author.Needs.{needs}
 use Rattle.columns.proofs.heads.same_head.Statement.{statement}
 use Rattle.columns.proofs.heads.same_head.Tie as tie

@@ -8,12 +8,12 @@ use borrow.Author.Tests.{eqb-true}
 use denote.Ref.{now}
 use lib.Dec.{eqb}
 use lib.ListN.{length, take, drop, getD, length-take, length-drop}
-use Rattle.trees.specs.Tests.{and-left, and-right}
+use Rattle.lists.specs.TestsLaws.{and-left, and-right}
 use Rattle.trees.specs.Rules.{labelBytes}
 use Rattle.engine.specs.Engine.{noLabel}
 use Rattle.engine.specs.Judging.{Stands}
 use Rattle.stack.specs.declared.Stack.{Stack}
-use Rattle.engine.specs.Lists.{written-over}
+use Rattle.lists.specs.PartsLaws.{copied}
 use Rattle.engine.proofs.Telling.{answer, one-is, told-one, told-none}
 use Rattle.engine.proofs.judge.settled.Statement.{statement}
 use Rattle.engine.proofs.judge.settled.Tie as tie
@@ -45,7 +45,7 @@ returns c =
     λ st d k w.
     ap (λ (x : Bool). answer x (b .args .s .blocks) (c .before .copy .last .1 .0)) taken
     ∙ told-one st work (b .args .s .top) (b .args .s .blocks) (one-is st _ _ d k ∙ sym (one .ensures) ∙ taken) w t
-    (written-over (take labelBytes (drop 4 work)) noLabel n (c .before .copy .ensures .1))
+    (copied (take labelBytes (drop 4 work)) noLabel _ (sym n) (c .before .copy .ensures .1))
 
 returns-2 : tie.Need-returns-2
 returns-2 c =

@@ -7,7 +7,7 @@ use borrow.Author.Tests.{not-true, not-false}
 use denote.Ref.{now}
 use lib.ListN.{length, take, drop, length-take}
 use lib.Seq.{length-take-le}
-use Rattle.lists.specs.Lists.{tail-part}
+use Rattle.lists.specs.PartsLaws.{tail-part}
 use Rattle.fips.specs.Digits.{Behind}
 use borrow.Author.Needs.{needs}
 use Rattle.fips.proofs.digits.value.Statement.{statement}

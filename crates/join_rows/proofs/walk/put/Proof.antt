@@ -4,7 +4,7 @@ use lib.ListN.{length, drop, length-set}
 use mathlib.Core.List.{_++_}
 use mathlib.Core.Path.{_≡_}
 use native.Mathlib.Omega.{arith}
-use Rattle.join_rows.specs.Lists.{upto}
+use Rattle.lists.specs.Lists.{upto}
 use Rattle.join_rows.proofs.Putting.{put-none, put-more, put-done}
 use borrow.Author.Needs.{needs}
 use Rattle.join_rows.proofs.walk.put.Statement.{statement}

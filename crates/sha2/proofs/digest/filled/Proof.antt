@@ -1,7 +1,7 @@
 use Prim.Native.Nat.{_+_, _-_}
 use mathlib.Core.Path.{_≡_}
 use denote.Ref.{now}
-use Rattle.lists.specs.Lists.{put-is}
+use Rattle.lists.specs.PartsLaws.{put-is}
 use native.Mathlib.Omega.{arith}
 use lib.ListN.{length, drop, length-take, length-drop}
 use borrow.Author.Needs.{needs}

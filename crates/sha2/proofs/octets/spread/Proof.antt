@@ -8,7 +8,7 @@ use borrow.Rule.Slice.PartMut.{putMid}
 use Rattle.compression.specs.Words.{spread}
 use Rattle.sha2.specs.Blocks.{length-bytes}
 use Rattle.sha2.proofs.Bytes.{spread-more}
-use Rattle.lists.specs.Lists.{put-is}
+use Rattle.lists.specs.PartsLaws.{put-is}
 use borrow.Author.Needs.{needs}
 use Rattle.sha2.proofs.octets.spread.Statement.{statement}
 use Rattle.sha2.proofs.octets.spread.Tie as tie

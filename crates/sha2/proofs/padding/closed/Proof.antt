@@ -4,7 +4,7 @@ use mathlib.Core.List.{List}
 use native.Mathlib.Omega.{arith}
 use lib.ListN.{length, take, set, length-take, length-set}
 use Rattle.sha2.proofs.Bytes.{closing-laid}
-use Rattle.lists.specs.Lists.{put-is}
+use Rattle.lists.specs.PartsLaws.{put-is}
 use lib.Seq.{length-take-le}
 use borrow.Author.Needs.{needs}
 use Rattle.sha2.proofs.padding.closed.Statement.{statement}

@@ -7,7 +7,7 @@ use lib.ListN.{length, take, length-take}
 use lib.Seq.{length-take-le, paste}
 use Rattle.compression.specs.Compression.{chain}
 use Rattle.compression.specs.Sha256.{sha256}
-use Rattle.lists.specs.Lists.{tail-part}
+use Rattle.lists.specs.PartsLaws.{tail-part}
 use Rattle.sha2.proofs.Holding.{held-short, held-long}
 use borrow.Author.Needs.{needs}
 use Rattle.sha2.proofs.digest.Digest.absorb.Statement.{statement}
