@@ -8,16 +8,11 @@ use lib.ListN.{length, take, drop, getD}
 use Rattle.lists.specs.Lists.{same}
 use Rattle.trees.specs.Nodes.{Head}
 use Rattle.trees.specs.Rules.{labelBytes}
-use Rattle.trees.specs.Rows.{Entry}
-use Rattle.tables.specs.Tables.{entryOf, sum}
+use Rattle.tables.specs.Tables.{sum}
 
 -- the part of the area that row x has
 abbrev pub valueAt : List ℕ → List ℕ → List ℕ → ℕ → List ℕ
 valueAt lengths values offsets x = take (getD lengths x 0) (drop (getD offsets x 0) values)
-
--- row x as an entry
-abbrev pub entryAt : List ℕ → List ℕ → List ℕ → List ℕ → List ℕ → ℕ → Entry
-entryAt types counts lengths values offsets x = entryOf (getD types x 0) (getD counts x 0) (valueAt lengths values offsets x)
 
 -- the label of row x: an internal row's stands in the labels, a leaf's in its part of the area
 abbrev pub textAt : List ℕ → List ℕ → List ℕ → List ℕ → List ℕ → ℕ → List ℕ

@@ -5,20 +5,20 @@ use mathlib.Core.List.{List, [], _∷_, _++_, map, map-append}
 use mathlib.Core.Logic.{_⊎_, inl, inr}
 use mathlib.Core.Path.{_≡_, refl, sym, ap, ap₂, _∙_, subst}
 use native.Mathlib.Omega.{arith}
-use borrow.Author.Tests.{ne-eqb, eq-eqb, eqb-true, eqb-false, ltb-true, ltb-false, leb-true, le-leb, lt-ltb, not-true, not-false}
+use borrow.Author.Tests.{ne-eqb, eqb-true, eqb-false, ltb-true, ltb-false, leb-true, le-leb, lt-ltb, not-true, not-false}
 use lib.Dec.{ltb, leb, eqb}
-use lib.ListN.{length, take, drop, getD, length-map}
+use lib.ListN.{length, drop, getD, length-map}
 use Rattle.refusals.specs.Chain.{chain, chain-each}
 use Rattle.lists.specs.TestsLaws.{and-left, and-right, and-both}
 use Rattle.lists.specs.Lists.{all, same}
 use Rattle.lists.specs.ListsLaws.{all-append, same-true, same-false, cons-head, cons-tail, nil-cons}
-use Rattle.lists.specs.PartsLaws.{map-take, map-drop}
-use Rattle.trees.specs.Nodes.{Node, inner, typeOf, height, highest, heads, prelabel, blocksOf, label, blocks}
+use Rattle.trees.specs.Nodes.{Node, inner, typeOf, height, heads, prelabel, blocksOf, label, blocks}
 use Rattle.trees.specs.Rules.{maxHeight, maxBytes, childrenMissing, tooHigh, saltBroken, notComposed, clashing, salted, textFits}
 use Rattle.trees.specs.Places.{Place}
 use Rattle.trees.specs.Join.{Joint, ok, clash, join}
 use Rattle.trees.specs.Rows.{Entry, node, tip, Tag, Step, fault, next, Verdict, faulty, left, tagOf, headOf, highestOf, hashed, stepOf, onward, judged, verdict, rows, number, kids, below, runOf, grow, grown}
 use Rattle.trees.specs.StackLaws.{hashed-tags}
+use Rattle.trees.specs.StackSound.{tags-below, tags-kids}
 use Rattle.tables.specs.Refusals.{accepted, tooLong, cutShort, otherEdition, noNodes, notOneTree, badPadding, noRoom, badList, rootsDiffer, joinTooLarge, badTable}
 use Rattle.tables.specs.Records.{firstFault}
 use Rattle.tables.specs.Tables.{Table, rowFits, firstBad, columnsFit, sum}
@@ -31,25 +31,23 @@ use Rattle.engine.specs.Engine.{oneTree, rootLabel}
 use Rattle.prune_rows.specs.Marks.{children}
 use Rattle.prune_rows.specs.Contracts.{pruned}
 use Rattle.slips.specs.declared.answer.Answer.{Answer}
-use Rattle.slips.specs.declared.header.Header.{Header}
-use Rattle.pack.specs.declared.Fault.{Fault}
 use Rattle.slips.specs.Answers.{refused, taken}
 use Rattle.tables.specs.Limits.{edition}
 use Rattle.slips.specs.Check.{headerBits, editionOf, countOf, readingOf, paddingFits, settledTests, settled, headerTests, headerOf, headed, bodyOf, checkOf}
-use Rattle.slips.specs.Output.{Packed, over, still}
+use Rattle.slips.specs.Output.{over}
 use Rattle.slips.specs.SlipTree.{slipTree}
 use Rattle.slips.specs.SlipTreeLaws.{check-tree}
 use Rattle.pack.specs.Pack.{rowsOf, badRow, faultTests, faultOf, tabled, sizeTests, judgedTests, judgedAs, answerOf, packOf}
-use Rattle.unpack.specs.Unpack.{Unpacked, lacksRoom, overAll, handedTests, handedOf, tableOf, unpackOf}
+use Rattle.unpack.specs.Unpack.{overAll, handedTests, handedOf, tableOf, unpackOf}
 use Rattle.send.specs.Sent.{sentTests, sent, sentTree}
 use Rattle.prune_tables.specs.Pruned.{listTests, prunedOf}
 use Rattle.prune.specs.Prune.{slipTests, pruneOf}
 use Rattle.both_slips.specs.Both.{sided, bothTests}
-use Rattle.join_tables.specs.Joined.{clashed, tooLarge, largeTests, joinedOf}
+use Rattle.join_tables.specs.Joined.{tooLarge, largeTests, joinedOf}
 use Rattle.join.specs.Join.{leaving, joinOf}
-use Rattle.demands.specs.InOrder.{Case, at, plain, on, among, InOrder}
+use Rattle.demands.specs.InOrder.{Case, on, among, InOrder}
 use Rattle.demands.specs.InOrderLaws.{free, linked, onto, one-of, past}
-use Rattle.demands.specs.Refusals.{says, Stated, Refuses, Leaves, Hands, OneTree, Names, rowCases, listCases, headerCases, treeCase, roomCase, endCases, entryCase, entryCases, bodyCases, slipCases, unpackCases, formedCases, packCases, pruneCases, treesCases, joinCases, slipNumbers, unpackNumbers, packNumbers, pruneNumbers, joinNumbers}
+use Rattle.demands.specs.Refusals.{says, Stated, Refuses, Leaves, Hands, OneTree, rowCases, listCases, headerCases, treeCase, roomCase, endCases, entryCase, entryCases, bodyCases, slipCases, unpackCases, formedCases, packCases, pruneCases, treesCases, joinCases, slipNumbers, unpackNumbers, packNumbers, pruneNumbers, joinNumbers}
 
 -- a test as its negation
 swap : {A : Type 0} (b : Bool) (x y : A) → cond b x y ≡ cond (not b) y x
@@ -196,13 +194,6 @@ module _ (H : List ℕ → List ℕ) (composed : List ℕ → Bool) where
       (entries-listed f (h childrenMissing refl) (h tooHigh refl) (h saltBroken refl) (h notComposed refl) 0 [] (readingOf s .rows))
       (and-both (f cutShort) _ (h cutShort refl) (and-both (f notOneTree) _ (h notOneTree refl) (and-both (f badPadding) true (h badPadding refl) refl))))
 
-  -- the stack of tags is cut where the stack of trees is
-  tags-below : (k : ℕ) (ns : List Node) → below k (map (tagOf H) ns) ≡ map (tagOf H) (below k ns)
-  tags-below k ns = ap (λ (l : ℕ). take (l - k) (map (tagOf H) ns)) (length-map ns (tagOf H)) ∙ map-take (tagOf H) (length ns - k) ns
-
-  tags-kids : (k : ℕ) (ns : List Node) → kids k (map (tagOf H) ns) ≡ map (tagOf H) (kids k ns)
-  tags-kids k ns = ap (λ (l : ℕ). drop (l - k) (map (tagOf H) ns)) (length-map ns (tagOf H)) ∙ map-drop (tagOf H) (length ns - k) ns
-
   -- "5, 6, 7 at its internal node", by the trees that wait
   abbrev nodeTests : ℕ → List Node → List (Bool × Step)
   nodeTests k ns =
@@ -220,7 +211,7 @@ module _ (H : List ℕ → List ℕ) (composed : List ℕ → Bool) where
       ap (λ (n : ℕ). cond (ltb n k) (fault childrenMissing) (hashed H (below k (map (tagOf H) ns)) (highestOf (kids k (map (tagOf H) ns))) (map headOf (kids k (map (tagOf H) ns)))))
       (length-map ns (tagOf H))
       ∙ ap (cond (ltb (length ns) k) (fault childrenMissing))
-      (ap₂ (λ (x y : List Tag). hashed H x (highestOf y) (map headOf y)) (tags-below k ns) (tags-kids k ns)
+      (ap₂ (λ (x y : List Tag). hashed H x (highestOf y) (map headOf y)) (tags-below H composed k ns) (tags-kids H composed k ns)
       ∙ hashed-tags H (map (tagOf H) (below k ns)) (kids k ns)
       ∙ ap (cond (ltb maxHeight (height (inner (runOf (kids k ns))))) (fault tooHigh))
       (swap (salted hs) _ _

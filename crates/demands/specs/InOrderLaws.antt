@@ -1,9 +1,9 @@
 -- How an answer is shown to be in order: by its chain of tests, and one list of refusals behind another.
 use Prim.Native.Nat.{ℕ}
-use mathlib.Core.Bool.{Bool, true, false, cond}
+use mathlib.Core.Bool.{Bool, true, false}
 use mathlib.Core.List.{List, [], _∷_, _++_}
 use mathlib.Core.Logic.{_⊎_, inl, inr}
-use mathlib.Core.Path.{_≡_, refl}
+use mathlib.Core.Path.{_≡_}
 use Rattle.refusals.specs.Chain.{chain, chain-each}
 use Rattle.lists.specs.TestsLaws.{and-left, and-right}
 use Rattle.lists.specs.Lists.{all}

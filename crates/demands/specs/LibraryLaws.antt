@@ -8,7 +8,7 @@ use mathlib.Core.Path.{_≡_, refl, sym, ap, _∙_, subst, subst₂}
 use native.Mathlib.Omega.{arith}
 use borrow.Author.Tests.{eq-eqb, ne-eqb, eqb-true, le-ltb}
 use lib.Dec.{ltb, eqb}
-use lib.ListN.{length, take, drop, length-append}
+use lib.ListN.{length, drop, length-append}
 use lib.Seq.{take-at}
 use Rattle.lists.specs.Lists.{Below, same}
 use Rattle.lists.specs.TestsLaws.{and-left, and-right, and-both, or-cases}

@@ -1,12 +1,12 @@
 -- A message hashed part by part: what the digest holds behind some of its digits.
-use Prim.Native.Nat.{ℕ, _+_, _-_, _*_, _≤_, _<_, min}
-use mathlib.Core.Path.{_≡_, refl, sym, ap, subst, _∙_}
+use Prim.Native.Nat.{ℕ, _+_, _-_, _≤_, _<_, min}
+use mathlib.Core.Path.{_≡_, refl, sym, ap, _∙_}
 use mathlib.Core.Bool.{Bool, true, false, _&&_}
-use mathlib.Core.List.{List, [], _∷_, _++_, append-assoc, append-nil}
+use mathlib.Core.List.{List, [], _++_, append-assoc, append-nil}
 use native.Mathlib.Omega.{arith}
 use borrow.Author.Tests.{ltb-true, ltb-false}
 use lib.Dec.{ltb}
-use lib.ListN.{length, take, drop, length-take, length-drop, length-append, drop-of-length-le}
+use lib.ListN.{length, take, drop, length-take, length-append, drop-of-length-le}
 use lib.Seq.{take-all, drop-drop}
 use Rattle.sha2.specs.Running.{Holds, Grows}
 use Rattle.sha2.specs.declared.digest.Digest.{Digest}

@@ -3,7 +3,6 @@ use bytes::scan;
 ghost use Prim.Native.Nat.{_*_, _/_, _≤_};
 ghost use mathlib.Core.Path.{_≡_};
 ghost use mathlib.Core.Bool.{true};
-ghost use mathlib.Core.List.{[]};
 ghost use lib.ListN.{length, take};
 ghost use Rattle.fips.specs.Digits.{digitOf, longerBy, numberOf, isHex, bytesOf, Behind, Reads};
 

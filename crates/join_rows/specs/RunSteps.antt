@@ -2,14 +2,15 @@
 use mathlib.Core.Path.{_≡_, refl, sym, ap, _∙_, subst, subst₂}
 use mathlib.Core.Bool.{Bool, true, false, cond, _||_}
 use mathlib.Core.List.{List, []}
-use Prim.Native.Nat.{ℕ, _+_, _-_, _<_}
+use Prim.Native.Nat.{ℕ, _+_, _-_}
 use native.Mathlib.Omega.{arith}
 use lib.Dec.{eqb}
 use lib.ListN.{length, getD}
 use borrow.Author.Tests.{eqb-true}
 use Rattle.lists.specs.ListsLaws.{append-cancel, nil-cons, at-front, at-back}
 use Rattle.lists.specs.TestsLaws.{or-cases}
-use Rattle.trees.specs.Nodes.{Node, Run, inner, leaf, nil, cons, count, size, sizes, heads}
+use Rattle.trees.specs.Nodes.{Node, Run, nil, cons, count, sizes, heads}
+use Rattle.trees.specs.NodesLaws.{some-size}
 use Rattle.trees.specs.StackLaws.{length-heads}
 use Rattle.trees.specs.Join.{join, joinRun}
 use Rattle.columns.specs.Columns.{noneLeft}
@@ -23,10 +24,6 @@ use Rattle.join_rows.specs.StartsLaws.{root-last, start-node}
 use Rattle.join_rows.specs.WalksLaws.{run-more}
 use Rattle.join_rows.specs.Meets.{RunsSaid}
 
-some-node : (n : Node) → 0 < size n
-some-node (inner r) = omega arith
-some-node (leaf t v) = omega arith
-
 -- a run with no child or no row is empty
 no-count : (r : Run) → count r ≡ 0 → r ≡ nil
 no-count nil e = refl
@@ -34,7 +31,7 @@ no-count (cons n r) e = absurd (omega arith)
 
 no-size : (r : Run) → sizes r ≡ 0 → r ≡ nil
 no-size nil e = refl
-no-size (cons n r) e = absurd (omega (arith, some-node n))
+no-size (cons n r) e = absurd (omega (arith, some-size n))
 
 pub earlier-at : (front last : Walked) → earlierOf front last .at ≡ front .at
 earlier-at front last = go (front .clash)

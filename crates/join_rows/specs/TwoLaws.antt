@@ -8,7 +8,8 @@ use lib.Dec.{eqb, ltb}
 use lib.ListN.{length, take, drop, getD, length-append, length-drop, take-append-drop, List·getD-append}
 use lib.Seq.{getD-take, getD-drop, take-take, take-add, drop-drop, getD-append-add, length-take-le}
 use borrow.Author.Tests.{ltb-true, ltb-false}
-use Rattle.trees.specs.Nodes.{Node, inner, leaf, size}
+use Rattle.trees.specs.Nodes.{Node, size}
+use Rattle.trees.specs.NodesLaws.{some-size}
 use Rattle.trees.specs.Rules.{labelBytes}
 use Rattle.tables.specs.Tables.{sum}
 use Rattle.tables.specs.TablesLaws.{sum-append, sum-part}
@@ -18,10 +19,6 @@ use Rattle.columns.specs.Columns.{Surveyed, Ready}
 use Rattle.join_rows.specs.Walks.{Reads}
 use Rattle.join_rows.specs.TablesLaws.{Shows, shows-as, table-shows, table-long, shown-count, shown-full, shown-head}
 use Rattle.join_rows.specs.Plans.{Two}
-
-pub some-size : (n : Node) → 0 < size n
-some-size (inner r) = omega arith
-some-size (leaf t v) = omega arith
 
 module _ (H : List ℕ → List ℕ) (a b : Node) (first : ℕ) (types counts lengths values labels : List ℕ)
     (h : Two H a b first types counts lengths values labels) where

@@ -11,6 +11,7 @@ use lib.Seq.{take-at, drop-at}
 use Rattle.lists.specs.TestsLaws.{and-left, and-right}
 use Rattle.lists.specs.Lists.{all}
 use Rattle.trees.specs.Nodes.{Node, typeOf, size, label, blocks}
+use Rattle.trees.specs.NodesLaws.{some-size}
 use Rattle.trees.specs.Rules.{maxType, maxValue, maxChildren, labelBytes, maxNodes, maxBytes, WellFormed}
 use Rattle.trees.specs.Rows.{Entry, node, tip, formed, rows, Tag, Verdict, faulty, left, verdict}
 use Rattle.trees.specs.RowsLaws.{length-rows, rows-inj}
@@ -25,7 +26,6 @@ use Rattle.engine.specs.Engine.{oneTree}
 use Rattle.slips.specs.declared.answer.Answer.{Answer}
 use Rattle.slips.specs.Answers.{refused, taken}
 use Rattle.slips.specs.Output.{over}
-use Rattle.slips.specs.SlipTrees.{size-some}
 use Rattle.slips.specs.Verdicts.{Refuses, verdict-refuses}
 use Rattle.unpack.specs.Columns.{typeCell, countCell, lengthCell, valueCell, valuesOf}
 use Rattle.unpack.specs.Unpack.{tableOf}
@@ -148,7 +148,7 @@ module _ (H : List ℕ → List ℕ) (composed : List ℕ → Bool) where
       go : (b : Bool) → ltb maxNodes (size n) ≡ b → answerOf H composed (tableOf (rows n)) room ≡ treeAnswer n room
       go true e = rw (e, table-full (rows n) (omega (arith, length-rows n, ltb-true maxNodes (size n) e)))
       go false e =
-          let some : 1 ≤ length (rows n) = omega (arith, length-rows n, size-some n) in
+          let some : 1 ≤ length (rows n) = omega (arith, length-rows n, some-size n) in
           let few : length (rows n) ≤ maxNodes = omega (arith, length-rows n, ltb-false maxNodes (size n) e) in
           rw (
             e,

@@ -1,6 +1,6 @@
 -- A piece written behind the first bytes of an area.
 use Prim.Native.Nat.{ℕ, _+_, _-_, _/_, _%_, _≤_}
-use mathlib.Core.Path.{_≡_, refl, ap, ap₂, _∙_}
+use mathlib.Core.Path.{_≡_, refl, ap₂, _∙_}
 use mathlib.Core.List.{List, [], _∷_, _++_, append-assoc}
 use native.Mathlib.Omega.{arith}
 use borrow.Rule.Slice.PartMut.{putMid}

@@ -31,7 +31,7 @@ use Rattle.prune_rows.specs.PrunedLaws.{rows-pruned}
 use Rattle.prune_rows.specs.Width.{width, pruned-narrow}
 use Rattle.slips.specs.declared.answer.Answer.{Answer}
 use Rattle.slips.specs.Answers.{refused, taken}
-use Rattle.slips.specs.Check.{readingOf, checkOf}
+use Rattle.slips.specs.Check.{checkOf}
 use Rattle.slips.specs.Output.{over, Packed, still}
 use Rattle.slips.specs.SlipTrees.{SlipOf, proper-formed, slip-rows, check-complete}
 use Rattle.slips.specs.SlipTree.{slipTree}

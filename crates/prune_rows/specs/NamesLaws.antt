@@ -22,7 +22,7 @@ use Rattle.trees.specs.Rows.{Entry, node, tip, formed, rows, lastRow, number, n
 use Rattle.trees.specs.RowsLaws.{length-rows}
 use Rattle.trees.specs.NumbersLaws.{Numbered, number-low, number-in-low, number-onto, entry-at}
 use Rattle.tables.specs.Records.{named, firstFault}
-use Rattle.tables.specs.ListRule.{Clean, NamesInner, Faulty, FaultAt, falls, outside, childless, clean-none, clean-cons, clean-tail, clean-rule, rule-clean, fault-told, fault-is, named-at}
+use Rattle.tables.specs.ListRule.{Clean, Faulty, falls, outside, childless, clean-none, clean-cons, clean-tail, clean-rule, rule-clean, fault-told, fault-is, named-at}
 use Rattle.prune_rows.specs.Marks.{children}
 use Rattle.prune_rows.specs.Contracts.{pruned}
 use Rattle.prune_rows.specs.Names.{InnerAt, LeafAt, CleanList, Misnames, FaultyList, numbers, numbersIn}

@@ -6,10 +6,9 @@ use native.Mathlib.Nat.{zero-add}
 use native.Mathlib.Omega.{arith}
 use lib.ListN.{length, take, drop, getD}
 use lib.Seq.{getD-take, length-take-le}
-use Rattle.trees.specs.Nodes.{Node, inner, leaf, size}
+use Rattle.trees.specs.Nodes.{Node, size}
+use Rattle.trees.specs.NodesLaws.{some-size}
 use Rattle.trees.specs.Places.{cut}
-use Rattle.trees.specs.PruneLaws.{cut-le, cut-none}
-use Rattle.trees.specs.RulesLaws.{le-size}
 use Rattle.trees.specs.Rows.{Entry, node, tip, rows, number, prunedRows}
 use Rattle.trees.specs.RowsLaws.{length-rows}
 use Rattle.trees.specs.NumbersLaws.{rows-cut}
@@ -42,24 +41,9 @@ module _ (H : List ℕ → List ℕ) (list : List ℕ) (n : Node) where
   pub rows-pruned : rows (pruned H list n) ≡ prunedRows H (named list) 0 n
   rows-pruned = ap rows (sym from-zero) ∙ rows-cut H (named list) 0 n
 
-  -- pruning never adds a node
-  pub pruned-fewer : length (prunedRows H (named list) 0 n) ≤ length (rows n)
-  pruned-fewer =
-      let less : size (pruned H list n) ≤ size n = le-size H (pruned H list n) n (cut-le H (λ p. named list (number n p)) n) in
-      omega (arith, ap length rows-pruned, length-rows (pruned H list n), length-rows n)
-
-  some-size : (m : Node) → 1 ≤ size m
-  some-size (inner r) = omega arith
-  some-size (leaf t v) = omega arith
-
-  -- and leaves the root at least
+  -- pruning leaves the root at least
   pub pruned-some : 1 ≤ length (prunedRows H (named list) 0 n)
   pruned-some = omega (arith, ap length rows-pruned, length-rows (pruned H list n), some-size (pruned H list n))
-
--- "An empty list returns the slip."
-pub pruned-none : (H : List ℕ → List ℕ) (n : Node) → prunedRows H (named []) 0 n ≡ rows n
-unfolding named
-pruned-none H n = sym (rows-pruned H [] n) ∙ ap rows (cut-none H n)
 
 -- what is written has one row an entry
 pub written-rows : (rows used : ℕ) (ts cs ls vs : List ℕ) (es : List Entry) → Written rows used ts cs ls vs es → rows ≡ length es

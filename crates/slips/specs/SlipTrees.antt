@@ -1,6 +1,6 @@
 -- The check accepts exactly the slips of well-formed trees, each of one tree, with that tree's label and blocks.
 use Prim.Native.Nat.{ℕ, _*_, _≤_, _<_}
-use mathlib.Core.Bool.{Bool, true, false, not, true≢false}
+use mathlib.Core.Bool.{Bool, true, false, true≢false}
 use mathlib.Core.List.{List, [], _∷_}
 use mathlib.Core.Path.{_≡_, refl, sym, ap, ap₂, _∙_, subst}
 use native.Mathlib.Omega.{arith}
@@ -15,7 +15,8 @@ use Rattle.lists.specs.ListsLaws.{below-drop}
 use Rattle.bits.specs.FieldLaws.{bits-num, bits-zero, num-field}
 use Rattle.bits.specs.ByteLaws.{length-bitsOf, below-bitsOf}
 use Rattle.lists.specs.TestsLaws.{and-left, and-right, and-both}
-use Rattle.trees.specs.Nodes.{Node, inner, leaf, typeOf, size, label, blocks}
+use Rattle.trees.specs.Nodes.{Node, leaf, typeOf, size, label, blocks}
+use Rattle.trees.specs.NodesLaws.{some-size}
 use Rattle.trees.specs.Rules.{maxNodes, maxBytes, WellFormed}
 use Rattle.trees.specs.Rows.{Entry, formed, rows, Tag, tagOf, Verdict, faulty, left, verdict}
 use Rattle.trees.specs.RowsLaws.{length-rows, rows-inj}
@@ -30,15 +31,10 @@ use Rattle.codec.specs.RoundTrip.{Was, read-all-was}
 use Rattle.codec.specs.SlipLaws.{Reads, slip-reads, reads-slip, slip-unique}
 use Rattle.engine.specs.Engine.{oneTree, rootLabel}
 use Rattle.slips.specs.declared.answer.Answer.{Answer}
-use Rattle.slips.specs.Answers.{refused, taken}
+use Rattle.slips.specs.Answers.{taken}
 use Rattle.slips.specs.Check.{headerBits, countOf, readingOf, paddingFits, settledTests, settled, headerOf, bodyOf, checkOf}
 use Rattle.slips.specs.HeaderLaws.{header-counted, header-told, header-edition-is, check-refused, check-body}
 use Rattle.slips.specs.Verdicts.{Refuses, verdict-refuses}
-
--- a tree has a node
-pub size-some : (n : Node) → 1 ≤ size n
-size-some (inner r) = omega arith
-size-some (leaf t v) = omega arith
 
 -- zero bits read as 0
 num-zeros : (n : ℕ) → numOf (replicate n 0) ≡ 0
@@ -134,7 +130,7 @@ module _ (H : List ℕ → List ℕ) (composed : List ℕ → Bool) where
       let r : Reads s (length (rows n)) (rows n) =
       subst (λ (t : List ℕ). Reads t (length (rows n)) (rows n)) (sym (x .is)) (slip-reads (rows n) (x .proper) count) in
       let head : headerBits ≤ 8 * length s = omega (arith, r .head, length-bitsOf s) in
-      let some : countOf s ≡ 0 → ⊥ = λ e. omega (arith, r .countIs, length-rows n, size-some n) in
+      let some : countOf s ≡ 0 → ⊥ = λ e. omega (arith, r .countIs, length-rows n, some-size n) in
       let h = header-counted s (x .long) head (r .editionIs) some in
       let reading : readingOf s ≡ record { rows = rows n; rest = replicate (r .pad) 0; whole = true } =
       ap (λ (k : ℕ). readAll k (drop headBits (bitsOf s))) (r .countIs) ∙ r .rows in

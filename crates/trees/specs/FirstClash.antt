@@ -1,15 +1,14 @@
 -- The clash that a join gives is the first in pre-order; where it gives a tree there is none.
 use mathlib.Core.Path.{_≡_, refl, sym, ap, _∙_, subst}
-use mathlib.Core.Logic.{_⊎_, inl, inr}
+use mathlib.Core.Logic.{inl, inr}
 use mathlib.Core.Bool.{Bool, true, false, cond}
 use mathlib.Core.List.{List, [], _∷_}
-use mathlib.Core.Option.{some}
 use Prim.Native.Nat.{ℕ, zero, suc}
 use native.Mathlib.Omega.{arith}
 use Rattle.lists.specs.Lists.{same}
 use Rattle.lists.specs.ListsLaws.{same-true}
 use Rattle.trees.specs.Nodes.{Node, Run, inner, leaf, nil, cons, prelabel, heads}
-use Rattle.trees.specs.Places.{Place, nodeAt, opened, tells}
+use Rattle.trees.specs.Places.{Place}
 use Rattle.trees.specs.PlacesLaws.{leaf-shut, opened-inj, opened-at, at-opened}
 use Rattle.trees.specs.Join.{Joint, ok, clash, JointRun, okRun, clashAt, wrap, both, join, joinRun, Alike, Clash, ClashIn, Before, NotAfter, FirstClash}
 use Rattle.trees.specs.JoinLaws.{join-clash}

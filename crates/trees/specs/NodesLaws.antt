@@ -1,11 +1,15 @@
--- The prelabel is injective, as document 000 asks of its function f.
+-- A tree has a node; the prelabel is injective, as document 000 asks of its function f.
 use mathlib.Core.Path.{_≡_, refl, sym}
 use mathlib.Core.List.{List, [], _∷_, _++_}
-use Prim.Native.Nat.{ℕ, _/_, _%_}
+use Prim.Native.Nat.{ℕ, _/_, _%_, _<_}
 use lib.ListN.{length}
 use native.Mathlib.Omega.{arith}
 use Rattle.lists.specs.ListsLaws.{append-cancel, nil-cons}
-use Rattle.trees.specs.Nodes.{Head, piece, prelabel}
+use Rattle.trees.specs.Nodes.{Node, inner, leaf, size, Head, piece, prelabel}
+
+pub some-size : (n : Node) → 0 < size n
+some-size (inner r) = omega arith
+some-size (leaf t v) = omega arith
 
 -- a number is known by its two bytes, of which the first may be any
 number-eq : (a b : ℕ) → a / 256 ≡ b / 256 → a % 256 ≡ b % 256 → a ≡ b

@@ -6,8 +6,7 @@ use Rattle.sha2.specs.Sha256 as Sha256
 use Rattle.sha2.specs.Blocks.{label-long}
 use Rattle.trees.specs.Rows.{prunedRows}
 use Rattle.tables.specs.Records.{named}
-use Rattle.prune_rows.specs.Contracts.{Written, Prunable, Prunes, pruned}
-use Rattle.prune_tables.specs.Contracts.{CleanAsks}
+use Rattle.prune_rows.specs.Contracts.{Written, Prunes, pruned}
 use Rattle.prune_tables.specs.CutLaws.{written, pruned-table, root-kept}
 use Rattle.prune_tables.proofs.Pruning.{able, pickable, prunes}
 use borrow.Author.Needs.{needs}

@@ -2,7 +2,7 @@ use Prim.Native.Nat.{_-_, _≤_, _<_}
 use mathlib.Core.Path.{_≡_, refl, sym, ap, _∙_}
 use native.Mathlib.Omega.{arith}
 use lib.ListN.{length, drop, drop-of-length-le}
-use Rattle.fips.specs.Digits.{longerBy, reads}
+use Rattle.fips.specs.Digits.{reads}
 use Rattle.fips.proofs.Spelling.{reads-more, number-none, number-reads}
 use borrow.Author.Needs.{needs}
 use Rattle.fips.proofs.digits.decimal.Statement.{statement}

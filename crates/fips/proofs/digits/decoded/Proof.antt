@@ -1,13 +1,13 @@
 use Prim.Native.Nat.{ℕ, _+_, _-_, _*_, _/_, _≤_, _<_}
 use mathlib.Core.Path.{_≡_, refl, sym, ap, _∙_}
 use mathlib.Core.Bool.{Bool, true, false, false≢true}
-use mathlib.Core.List.{List, [], _++_, append-nil}
+use mathlib.Core.List.{List, _++_, append-nil}
 use native.Mathlib.Omega.{arith}
 use borrow.Author.Tests.{eqb-true, eqb-false}
 use denote.Ref.{now}
 use lib.Dec.{eqb}
-use lib.ListN.{length, take, drop, getD, length-set, length-drop}
-use Rattle.fips.specs.Digits.{digitOf, isHex, bytesOf}
+use lib.ListN.{length, take, drop, length-set, length-drop}
+use Rattle.fips.specs.Digits.{isHex, bytesOf}
 use Rattle.fips.proofs.Spelling.{bad-first, bad-second, hex-more, bytes-more, end-bytes, end-hex}
 use borrow.Author.Needs.{needs}
 use Rattle.fips.proofs.digits.decoded.Statement.{statement}

@@ -2,7 +2,8 @@ use denote.Ref.{now}
 use lib.ListN.{length}
 use native.Mathlib.Omega.{arith}
 use Rattle.trees.specs.Join.{join}
-use Rattle.join_rows.specs.TwoLaws.{first-rows, first-low, all-rows, some-size, two-ready}
+use Rattle.trees.specs.NodesLaws.{some-size}
+use Rattle.join_rows.specs.TwoLaws.{first-rows, first-low, all-rows, two-ready}
 use Rattle.join_rows.specs.PlanLaws.{two-said, clash-planned, ok-planned}
 use borrow.Author.Needs.{needs}
 use Rattle.join_rows.proofs.plan.plan.Statement.{statement}

@@ -1,6 +1,5 @@
 -- `table_text::places::depth` is safe and ends.
 use Prim.Native.Nat.{_≤_, _-_}
-use native.Mathlib.Omega.{arith}
 use borrow.Author.Needs.{needs}
 use Rattle.table_text.proofs.places.depth.Statement.{statement}
 use Rattle.table_text.proofs.places.depth.Tie as tie
