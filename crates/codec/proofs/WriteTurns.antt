@@ -14,13 +14,13 @@ use Rattle.bits.specs.InkLaws.{start, ink-start, ready-start, length-ink, rest-
 use Rattle.bits.specs.declared.pen.Pen.{Pen}
 use Rattle.trees.specs.Rows.{Entry}
 use Rattle.tables.specs.Limits.{edition, editionBits, countBits}
-use Rattle.tables.specs.Tables.{entryOf, entries, rowFits, firstBad, sum}
+use Rattle.tables.specs.Tables.{entryOf, entries, rowFits, firstBad, sum, Columns}
 use Rattle.tables.specs.TablesLaws.{length-entries}
 use Rattle.codec.specs.Writing.{entryBits, allBits, slipBits, slipOf}
 use Rattle.codec.specs.TableLaws.{entries-off, form-off, sum-off}
 use Rattle.codec.specs.MeasureLaws.{slip-bits-long, slip-bytes-long}
 use Rattle.codec.specs.Reader.{headBits}
-use Rattle.codec.specs.Writer.{Columns, WriteAsks, WriteGives}
+use Rattle.codec.specs.Writer.{WriteAsks, WriteGives}
 
 -- the header's bits of n rows
 abbrev head : ℕ → List ℕ
@@ -64,7 +64,7 @@ module _ {T C L W : List ℕ} {p : Pen} {x : List ℕ} {q : Pen} {y : List ℕ} 
     behind = entries (drop (i + 1) T) (drop (i + 1) C) (drop (i + 1) L) (drop (used + l) W)
 
     row-of-lengths : sum (drop i L) ≡ l + sum (drop (i + 1) L)
-    row-of-lengths = sum-off L i (omega (arith, cells .within, cols .sameLengths)) ∙ ap (λ (k : ℕ). k + sum (drop (i + 1) L)) (sym (cells .size))
+    row-of-lengths = sum-off L i (omega (arith, cells .within, cols .lengths-long)) ∙ ap (λ (k : ℕ). k + sum (drop (i + 1) L)) (sym (cells .size))
 
     pub value-fits : used + l ≤ length W
     value-fits = omega (arith, g .filled, row-of-lengths)
@@ -80,7 +80,7 @@ module _ {T C L W : List ℕ} {p : Pen} {x : List ℕ} {q : Pen} {y : List ℕ} 
     -- the rows that remain are this one and those behind it
     remains : entries (drop i T) (drop i C) (drop i L) (drop used W) ≡ entryOf t c value ∷ behind
     remains =
-        entries-off T C L i (cols .sameCounts) (cols .sameLengths) (cells .within) (drop used W)
+        entries-off T C L i (cols .counts-long) (cols .lengths-long) (cells .within) (drop used W)
         ∙ (λ j.
         entryOf (sym (cells .type) j) (sym (cells .count) j) (take (sym (cells .size) j) (drop used W))
         ∷ entries (drop (i + 1) T) (drop (i + 1) C) (drop (i + 1) L) (drop (sym (cells .size) j) (drop used W)))
@@ -92,7 +92,7 @@ module _ {T C L W : List ℕ} {p : Pen} {x : List ℕ} {q : Pen} {y : List ℕ} 
     split = ap (λ (es : List Entry). g .done ++ allBits es) (sym remains) ∙ g .left
 
     form : (rowFits (getD T i 0) (getD C i 0) (getD L i 0) ≡ true) × (firstBad (i + 1) (drop (i + 1) T) (drop (i + 1) C) (drop (i + 1) L) ≡ length T)
-    form = form-off T C L i (cols .sameCounts) (cols .sameLengths) (cells .within) (g .form)
+    form = form-off T C L i (cols .counts-long) (cols .lengths-long) (cells .within) (g .form)
 
     pub row-form : rowFits t c (length value) ≡ true
     row-form = (λ j. rowFits (cells .type j) (cells .count j) ((value-long ∙ cells .size) j)) ∙ form .0
@@ -166,7 +166,7 @@ module _ (T C L W out : List ℕ) (a : WriteAsks T C L W out) where
       let es : List Entry = entries T C L W in
       let n : ℕ = length T in
       let both : Wrote start out (head n ++ allBits es) q y = wrote-both start out (head n) p x (allBits es) q y v w in
-      let rows : length es ≡ n = length-entries T C L W (a .columns .sameCounts) (a .columns .sameLengths) in
+      let rows : length es ≡ n = length-entries T C L W (a .columns .counts-long) (a .columns .lengths-long) in
       let all : ink q y ≡ slipBits es =
       both .bits
       ∙ ap (λ (l : List ℕ). l ++ (head n ++ allBits es)) (ink-start out)

@@ -3,16 +3,9 @@ use mathlib.Core.Path.{_≡_}
 use mathlib.Core.List.{List, _++_}
 use Prim.Native.Nat.{ℕ, _≤_, _<_, _^_}
 use lib.ListN.{length, drop}
-use Rattle.trees.specs.Rules.{maxNodes}
-use Rattle.tables.specs.Tables.{entries, firstBad, sum}
+use Rattle.tables.specs.Tables.{Columns, entries, firstBad, sum}
 use Rattle.codec.specs.Writing.{slipOf}
 use Rattle.codec.specs.Measure.{tableBits}
-
--- columns of one length, of no more rows than a slip has
-pub record Columns (types counts lengths : List ℕ) : Type 0 where
-  pub sameCounts : length counts ≡ length types
-  pub sameLengths : length lengths ≡ length types
-  pub few : length types ≤ maxNodes
 
 pub record Measured (types counts lengths : List ℕ) (r : ℕ) : Type 0 where
   pub bits : r ≡ tableBits types counts lengths

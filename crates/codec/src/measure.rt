@@ -2,7 +2,8 @@
 ghost use mathlib.Core.Path.{_≡_};
 ghost use Prim.Native.Nat.{_<_, _≤_};
 ghost use Rattle.codec.specs.Measure.{rowBits};
-ghost use Rattle.codec.specs.Writer.{Columns, Measured};
+ghost use Rattle.tables.specs.Tables.{Columns};
+ghost use Rattle.codec.specs.Writer.{Measured};
 use tables::form::cell;
 use tables::limits::Slip;
 

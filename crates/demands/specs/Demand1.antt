@@ -20,16 +20,15 @@ use Rattle.trees.specs.Rows.{Entry, node, tip, Tag, Step, fault, next, Verdict,
 use Rattle.trees.specs.StackLaws.{hashed-tags}
 use Rattle.trees.specs.StackSound.{tags-below, tags-kids}
 use Rattle.tables.specs.Refusals.{accepted, tooLong, cutShort, otherEdition, noNodes, notOneTree, badPadding, noRoom, badList, rootsDiffer, joinTooLarge, badTable}
-use Rattle.tables.specs.Records.{firstFault}
-use Rattle.tables.specs.Tables.{Table, rowFits, firstBad, columnsFit, sum}
-use Rattle.tables.specs.TablesLaws.{Columns, columns-told}
+use Rattle.tables.specs.PruningList.{firstFault, pruned}
+use Rattle.tables.specs.Tables.{Table, rowFits, firstBad, columnsFit, sum, Columns}
+use Rattle.tables.specs.TablesLaws.{columns-told}
 use Rattle.bits.specs.Bits.{bitsOf}
 use Rattle.codec.specs.Writing.{slipOf}
 use Rattle.codec.specs.Reading.{Read, short, got, Reading, readOne, readAll}
 use Rattle.codec.specs.Reading as Reading
 use Rattle.engine.specs.Engine.{oneTree, rootLabel}
-use Rattle.prune_rows.specs.Marks.{children}
-use Rattle.prune_rows.specs.Contracts.{pruned}
+use Rattle.tables.specs.Cells.{countCell}
 use Rattle.slips.specs.declared.answer.Answer.{Answer}
 use Rattle.slips.specs.Answers.{refused, taken}
 use Rattle.tables.specs.Limits.{edition}
@@ -451,7 +450,7 @@ module _ (H : List ℕ → List ℕ) (composed : List ℕ → Bool) where
                   no-columns,
                   inr (
                     free (eqb-false (length ts) 0 z),
-                    rows-order _ (refused badTable (badRow t)) _ 0 (t .types) (t .counts) (t .lengths) (k .counted) (k .measured) (λ m. refl)
+                    rows-order _ (refused badTable (badRow t)) _ 0 (t .types) (t .counts) (t .lengths) (k .counts-long) (k .lengths-long) (λ m. refl)
                         (λ m. absurd (omega (arith, m, ltb-true (badRow t) (length ts) r))),
                   ),
                 ),
@@ -460,7 +459,7 @@ module _ (H : List ℕ → List ℕ) (composed : List ℕ → Bool) where
                     no-columns,
                     inr (
                       free (eqb-false (length ts) 0 z),
-                      rows-order _ (refused badTable 0) _ 0 (t .types) (t .counts) (t .lengths) (k .counted) (k .measured)
+                      rows-order _ (refused badTable 0) _ 0 (t .types) (t .counts) (t .lengths) (k .counts-long) (k .lengths-long)
                           (λ m. absurd (omega (arith, m, ltb-false (badRow t) (length ts) r)))
                           (λ m. inl (0, 0, (refl, refl, eqb-false (length (t .values)) (sum (t .lengths)) (not-true (eqb (length (t .values)) (sum (t .lengths))) v)), refl)),
                     ),
@@ -469,7 +468,7 @@ module _ (H : List ℕ → List ℕ) (composed : List ℕ → Bool) where
                     no-columns,
                     inr (
                       free (eqb-false (length ts) 0 z),
-                      rows-order _ last _ 0 (t .types) (t .counts) (t .lengths) (k .counted) (k .measured)
+                      rows-order _ last _ 0 (t .types) (t .counts) (t .lengths) (k .counts-long) (k .lengths-long)
                           (λ m. absurd (omega (arith, m, ltb-false (badRow t) (length ts) r)))
                           (λ m. inr (
                             free (λ h. h (eqb-true (length (t .values)) (sum (t .lengths)) (not-false (eqb (length (t .values)) (sum (t .lengths))) v))),
@@ -543,7 +542,7 @@ module _ (H : List ℕ → List ℕ) (composed : List ℕ → Bool) where
   unfolding pruneOf
   prune-stated s list out =
       let a : Answer = checkOf H composed s in
-      let counts : List ℕ = map children (readingOf s .rows) in
+      let counts : List ℕ = map countCell (readingOf s .rows) in
       record {
         stated =
             record {

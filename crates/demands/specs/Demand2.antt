@@ -14,7 +14,7 @@ use Rattle.trees.specs.PruneLaws.{cut-stays, cut-named}
 use Rattle.trees.specs.Rows.{rows, number}
 use Rattle.trees.specs.Rules.{WellFormed}
 use Rattle.tables.specs.Refusals.{accepted}
-use Rattle.tables.specs.Records.{named}
+use Rattle.tables.specs.PruningList.{named, pruned}
 use Rattle.tables.specs.Tables.{Table}
 use Rattle.codec.specs.Writing.{slipOf}
 use Rattle.sha2.specs.Sha256 as Sha256
@@ -25,7 +25,6 @@ use Rattle.unicode.specs.Repertoire.{allPlain, allIn}
 use Rattle.unicode.specs.Nfc.{nfc}
 use Rattle.titles.specs.Compose.{composedText, acceptedWith, outcome}
 use Rattle.titles.specs.Titles.{title-nfc, accepted-nfc, equal-nfc}
-use Rattle.prune_rows.specs.Contracts.{pruned}
 use Rattle.slips.specs.Answers.{taken}
 use Rattle.slips.specs.Check.{countOf, checkOf}
 use Rattle.slips.specs.Output.{over}

@@ -16,8 +16,8 @@ use Rattle.tables.specs.Refusals.{accepted, tooLong, cutShort, otherEdition, no
 use Rattle.tables.specs.Tables.{Table, rowFits, columnsFit, sum}
 use Rattle.codec.specs.Writing.{slipOf}
 use Rattle.engine.specs.Engine.{noLabel}
-use Rattle.prune_rows.specs.Marks.{children}
-use Rattle.prune_rows.specs.Contracts.{pruned}
+use Rattle.tables.specs.Cells.{countCell}
+use Rattle.tables.specs.PruningList.{pruned}
 use Rattle.slips.specs.declared.answer.Answer.{Answer}
 use Rattle.slips.specs.Check.{headerBits, editionOf, countOf, readingOf, paddingFits}
 use Rattle.slips.specs.Output.{Packed}
@@ -157,7 +157,7 @@ module _ (H : List ℕ → List ℕ) (composed : List ℕ → Bool) where
   abbrev pub pruneCases : List ℕ → List ℕ → ℕ → List Case
   pruneCases s list room =
       slipCases s
-      ++ (listCases (map children (readingOf s .rows)) 0 0 list ++ (roomCase (rows (pruned H list (slipTree s))) room ∷ []))
+      ++ (listCases (map countCell (readingOf s .rows)) 0 0 list ++ (roomCase (rows (pruned H list (slipTree s))) room ∷ []))
 
   -- "Join: first slip (side 1), second slip (side 2), 13, 14, 15, 11; side is 0 otherwise."
   abbrev pub joinCases : List ℕ → List ℕ → ℕ → List Case

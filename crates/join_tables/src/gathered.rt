@@ -11,7 +11,7 @@ ghost use Prim.Native.Nat.{_*_, _≤_};
 ghost use lib.ListN.{length};
 ghost use Rattle.tables.specs.Areas.{smallBytes, smallNodes};
 ghost use Rattle.columns.specs.Gathers.{Gathering};
-ghost use Rattle.send.specs.Sent.{SendTreeAsks};
+ghost use Rattle.send.specs.Contracts.{SendTreeAsks};
 ghost use Rattle.join_tables.specs.Contracts.{DeliverGives, GatherAsks, GatherGives};
 
 // "15, 11", or the slip.

@@ -8,7 +8,7 @@ use Rattle.unicode.specs.Utf8.{width, within, low, high, tail, twoBytes, threeB
 use Rattle.unicode.specs.Repertoire.{member, marks, isMark, plain, allPlain}
 use Rattle.titles.specs.Compose.{composedText}
 use Rattle.codec.specs.Reading.{readValue, readLeaf, readRest, readOne, readAll}
-use Rattle.tables.specs.Records.{named, firstFault}
+use Rattle.tables.specs.PruningList.{named, firstFault}
 use Rattle.codec.specs.Writing.{leafBits, entryBits, allBits, slipBits, slipOf}
 use Rattle.slips.specs.Answers.{taken}
 use Rattle.slips.specs.Check.{paddingFits, settled, headerOf, bodyOf, checkOf}

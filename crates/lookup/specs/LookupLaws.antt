@@ -10,8 +10,8 @@ use borrow.Author.Tests.{eqb-true, eqb-false, leb-true, le-leb}
 use Rattle.trees.specs.Rules.{maxType}
 use Rattle.trees.specs.Rows.{Entry, tip}
 use Rattle.lists.specs.TestsLaws.{and-left, and-right}
-use Rattle.tables.specs.Tables.{Table, tableFits, entries, sum}
-use Rattle.tables.specs.TablesLaws.{Formed, table-told, fits-cases, formed-row, sum-part, entries-at}
+use Rattle.tables.specs.Tables.{Table, tableFits, entries, sum, Formed}
+use Rattle.tables.specs.TablesLaws.{table-told, fits-cases, formed-row, sum-part, entries-at}
 use Rattle.lookup.specs.Lookup.{firstOf, heldIn}
 use Rattle.lookup.specs.declared.held.Spot.{Spot}
 use Rattle.lookup.specs.declared.held.Spot.the-variants.{At, Nothing}
@@ -124,7 +124,7 @@ pub held-none :
     → ⊥
 unfolding heldIn
 held-none kind t p f e =
-    no-row kind 0 (t .types) (t .lengths) (table-told t f .columns .measured) (rw (le-leb 1 kind p, f) at e)
+    no-row kind 0 (t .types) (t .lengths) (table-told t f .columns .lengths-long) (rw (le-leb 1 kind p, f) at e)
 
 -- "A table that number 16 would refuse holds nothing"
 pub refused-none : (kind : ℕ) (t : Table) → tableFits t ≡ false → heldIn kind t ≡ Nothing

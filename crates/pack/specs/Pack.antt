@@ -1,9 +1,8 @@
 -- What the packer answers and leaves: "Packer: columns unequal or over 1,023 rows (16), 4, each row (16), values area not the sum of
 -- lengths (16), 1, then 5 to 8 by entry, 9, 11."
-use Prim.Native.Nat.{ℕ, _≤_}
+use Prim.Native.Nat.{ℕ}
 use mathlib.Core.Bool.{Bool, not, cond}
 use mathlib.Core.List.{List, [], _∷_}
-use mathlib.Core.Path.{_≡_}
 use lib.Dec.{ltb, eqb}
 use lib.ListN.{length}
 use Rattle.refusals.specs.Chain.{chain}
@@ -11,7 +10,6 @@ use Rattle.trees.specs.Rules.{maxBytes}
 use Rattle.trees.specs.Rows.{Entry, Tag, Verdict, faulty, left, verdict}
 use Rattle.tables.specs.Refusals.{accepted, tooLong, noNodes, notOneTree, noRoom, badTable}
 use Rattle.tables.specs.Tables.{Table, entries, columnsFit, firstBad, rowBad, areaFits}
-use Rattle.tables.specs.TablesLaws.{Formed}
 use Rattle.codec.specs.Writing.{slipOf}
 use Rattle.engine.specs.Engine.{oneTree, rootLabel}
 use Rattle.slips.specs.declared.answer.Answer.{Answer}
@@ -70,13 +68,3 @@ module _ (H : List ℕ → List ℕ) (composed : List ℕ → Bool) where
         answer = answerOf t (length out);
         bytes = cond (eqb (answerOf t (length out) .number) accepted) (over (slipOf (rowsOf t)) out) out;
       }
-
--- a table of the form whose slip has room
-pub record Roomy (t : Table) (room : ℕ) : Type 0 where
-  pub form : Formed t
-  pub fits : length (slipOf (rowsOf t)) ≤ room
-
--- the packer's answer, and where it accepts what it has found
-pub record Answered (t : Table) (room : ℕ) (a r : Answer) : Type 0 where
-  pub answer : r ≡ a
-  pub roomy : r .number ≡ accepted → Roomy t room

@@ -11,8 +11,8 @@ use Rattle.trees.specs.Rules.{maxBytes}
 use Rattle.lists.specs.Lists.{all}
 use Rattle.trees.specs.Rows.{Entry, formed, Tag, Verdict, faulty, left, verdict}
 use Rattle.tables.specs.Refusals.{accepted, tooLong, noNodes, notOneTree, noRoom, badTable}
-use Rattle.tables.specs.Tables.{Table, rowFits, firstBad, columnsFit, rowBad, areaFits, tableFits, sum}
-use Rattle.tables.specs.TablesLaws.{Formed, table-told}
+use Rattle.tables.specs.Tables.{Table, rowFits, firstBad, columnsFit, rowBad, areaFits, tableFits, sum, Formed}
+use Rattle.tables.specs.TablesLaws.{table-told}
 use Rattle.codec.specs.Writing.{slipOf}
 use Rattle.codec.specs.Measure.{rowBits, rowsBits, tableBits}
 use Rattle.codec.specs.MeasureLaws.{slip-bytes-measured, node-bits, dangling-bits, pair-bits}
@@ -113,7 +113,7 @@ module _ (t : Table) (f : Formed t) where
   pub values-few : length (slipOf (rowsOf t)) ≤ maxBytes → sum (t .lengths) ≤ maxBytes
   unfolding tableBits
   values-few h =
-      let bits = rows-hold 0 (t .types) (t .counts) (t .lengths) (f .columns .counted) (f .columns .measured) (f .rows ∙ omega arith) in
+      let bits = rows-hold 0 (t .types) (t .counts) (t .lengths) (f .columns .counts-long) (f .columns .lengths-long) (f .rows ∙ omega arith) in
       omega (arith, slip-long, bits)
 
 -- the answer by what the engine tells

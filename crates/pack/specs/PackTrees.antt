@@ -18,8 +18,8 @@ use Rattle.trees.specs.RowsLaws.{length-rows, rows-inj}
 use Rattle.trees.specs.StackLaws.{complete-tree, rows-formed}
 use Rattle.trees.specs.StackSound.{sound-one, built-well-formed}
 use Rattle.tables.specs.Refusals.{accepted, tooLong, noRoom, badTable}
-use Rattle.tables.specs.Tables.{Table, entryOf, entries, rowFits, firstBad, columnsFit, sum}
-use Rattle.tables.specs.TablesLaws.{Formed, columns-told, length-entries}
+use Rattle.tables.specs.Tables.{Table, entryOf, entries, rowFits, firstBad, columnsFit, sum, Formed}
+use Rattle.tables.specs.TablesLaws.{columns-told, length-entries}
 use Rattle.codec.specs.Writing.{slipOf}
 use Rattle.codec.specs.TableLaws.{fits-internal, fits-dangling, fits-pair}
 use Rattle.engine.specs.Engine.{oneTree}
@@ -27,9 +27,9 @@ use Rattle.slips.specs.declared.answer.Answer.{Answer}
 use Rattle.slips.specs.Answers.{refused, taken}
 use Rattle.slips.specs.Output.{over}
 use Rattle.slips.specs.Verdicts.{Refuses, verdict-refuses}
-use Rattle.unpack.specs.Columns.{typeCell, countCell, lengthCell, valueCell, valuesOf}
+use Rattle.tables.specs.Cells.{typeCell, countCell, lengthCell, valueCell, valuesOf}
 use Rattle.unpack.specs.Unpack.{tableOf}
-use Rattle.unpack.specs.ColumnsLaws.{table-back}
+use Rattle.unpack.specs.CellsLaws.{table-back}
 use Rattle.pack.specs.Pack.{rowsOf, badRow, faultOf, judgedAs, answerOf, packOf}
 use Rattle.pack.specs.PackLaws.{fault-columns, fault-free, rows-of-formed, answer-cases, judged-cases, number-of}
 
@@ -189,12 +189,12 @@ module _ (H : List ℕ → List ℕ) (composed : List ℕ → Bool) where
       let built = sound-one H composed (rowsOf t) (o .root) (o .compressed) (rows-of-formed t f) (o .is) in
       let exact : rowsOf t ≡ rows (built .tree) = sym (built .exact) in
       let long : length (rowsOf t) ≡ length (t .types) =
-      length-entries (t .types) (t .counts) (t .lengths) (t .values) (f .columns .counted) (f .columns .measured) in (
+      length-entries (t .types) (t .counts) (t .lengths) (t .values) (f .columns .counts-long) (f .columns .lengths-long) in (
         built .tree,
         record {
           well = built-well-formed H composed (rowsOf t) (o .root) (o .compressed) built (o .kind);
           is =
-              sym (table-back (t .types) (t .counts) (t .lengths) (t .values) (f .columns .counted) (f .columns .measured) (f .rows) (f .area))
+              sym (table-back (t .types) (t .counts) (t .lengths) (t .values) (f .columns .counts-long) (f .columns .lengths-long) (f .rows) (f .area))
               ∙ ap tableOf exact;
           few = omega (arith, length-rows (built .tree), ap length exact, long, f .columns .few);
           long = omega (arith, short, ap (λ (es : List Entry). length (slipOf es)) exact);

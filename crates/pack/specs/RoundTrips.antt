@@ -13,8 +13,7 @@ use Rattle.trees.specs.Rows.{Entry, rows}
 use Rattle.trees.specs.RowsLaws.{length-rows}
 use Rattle.trees.specs.StackLaws.{rows-formed}
 use Rattle.tables.specs.Refusals.{accepted}
-use Rattle.tables.specs.Tables.{Table}
-use Rattle.tables.specs.TablesLaws.{Formed}
+use Rattle.tables.specs.Tables.{Table, Formed}
 use Rattle.codec.specs.Writing.{slipOf}
 use Rattle.codec.specs.Proper.{AllProper}
 use Rattle.codec.specs.ProperLaws.{table-proper}
@@ -26,7 +25,7 @@ use Rattle.slips.specs.Output.{Packed, over}
 use Rattle.slips.specs.SlipTrees.{SlipOf, check-complete, slip-rows}
 use Rattle.slips.specs.SlipTree.{slipTree}
 use Rattle.slips.specs.ByteTrees.{accepted-slip}
-use Rattle.unpack.specs.Columns.{typeCell}
+use Rattle.tables.specs.Cells.{typeCell}
 use Rattle.unpack.specs.Unpack.{Unpacked, overAll, tableIn, tableOf, unpackOf}
 use Rattle.unpack.specs.UnpackLaws.{Room, handed-out, handed-told, in-over}
 use Rattle.pack.specs.Pack.{rowsOf, answerOf, packOf}

@@ -15,11 +15,11 @@ ghost use Rattle.sha2.specs.Sha256 as Sha256;
 ghost use Rattle.titles.specs.Compose.{composedText};
 ghost use Rattle.trees.specs.Rules.{maxBytes};
 ghost use Rattle.trees.specs.Rows.{verdict};
-ghost use Rattle.tables.specs.Tables.{table, sum};
-ghost use Rattle.tables.specs.TablesLaws.{Formed};
+ghost use Rattle.tables.specs.Tables.{table, sum, Formed};
 ghost use Rattle.engine.specs.Engine.{told};
 ghost use Rattle.slips.specs.Output.{Packs};
-ghost use Rattle.pack.specs.Pack.{Answered, faultOf, rowsOf, answerOf, packOf};
+ghost use Rattle.pack.specs.Contracts.{Answered};
+ghost use Rattle.pack.specs.Pack.{faultOf, rowsOf, answerOf, packOf};
 
 // The refusal of a table that has not the form, and its place; or 0.
 pub struct Fault {

@@ -5,7 +5,7 @@ use mathlib.Core.List.{List, [], _∷_, map}
 use lib.Dec.{eqb}
 use Rattle.refusals.specs.Chain.{chain}
 use Rattle.tables.specs.Refusals.{accepted}
-use Rattle.prune_rows.specs.Marks.{children}
+use Rattle.tables.specs.Cells.{countCell}
 use Rattle.slips.specs.declared.answer.Answer.{Answer}
 use Rattle.slips.specs.Check.{readingOf, checkOf}
 use Rattle.slips.specs.Output.{Packed, still}
@@ -20,4 +20,4 @@ module _ (H : List ℕ → List ℕ) (composed : List ℕ → Bool) where
   -- the pruning of a slip by a list into an output
   unfoldable pub pruneOf : List ℕ → List ℕ → List ℕ → Packed
   pruneOf s list out =
-      chain (slipTests (checkOf H composed s) out) (prunedOf H (map children (readingOf s .rows)) list (slipTree s) out)
+      chain (slipTests (checkOf H composed s) out) (prunedOf H (map countCell (readingOf s .rows)) list (slipTree s) out)

@@ -6,7 +6,7 @@ use mathlib.Core.Path.{_≡_, refl, sym, ap, _∙_}
 use borrow.Author.Tests.{eq-eqb, ne-eqb}
 use lib.ListN.{take}
 use Rattle.tables.specs.Refusals.{accepted}
-use Rattle.prune_rows.specs.Marks.{children}
+use Rattle.tables.specs.Cells.{countCell}
 use Rattle.prune_rows.specs.TableLaws.{entries-counts}
 use Rattle.slips.specs.declared.answer.Answer.{Answer}
 use Rattle.slips.specs.Check.{readingOf, checkOf}
@@ -24,13 +24,13 @@ module _ (H : List ℕ → List ℕ) (composed : List ℕ → Bool) (s list out 
       rw (ne-eqb (checkOf H composed s .number) accepted (λ q. h (ap (λ (x : Answer). x .number) e ∙ q))) (record { answered = e; written = refl })
 
   -- and one that is accepted
-  pub prune-accepted : checkOf H composed s .number ≡ accepted → prunedOf H (map children (readingOf s .rows)) list (slipTree s) out ≡ pruneOf H composed s list out
+  pub prune-accepted : checkOf H composed s .number ≡ accepted → prunedOf H (map countCell (readingOf s .rows)) list (slipTree s) out ≡ pruneOf H composed s list out
   unfolding pruneOf
   prune-accepted e = sym (rw (eq-eqb (checkOf H composed s .number) accepted e))
 
 module _ {s : List ℕ} {rows : ℕ} {types counts lengths values labels : List ℕ} (h : HoldsTree s rows types counts lengths values labels) where
   -- the column of counts has what the entries name
-  pub counts-held : take rows counts ≡ map children (readingOf s .rows)
+  pub counts-held : take rows counts ≡ map countCell (readingOf s .rows)
   counts-held =
       sym (entries-counts (take rows types) (take rows counts) (take rows lengths) values (h .holds .counts-long) (h .holds .lengths-long))
-      ∙ ap (map children) (h .holds .rows-are ∙ sym (h .reads-as .rows-are))
+      ∙ ap (map countCell) (h .holds .rows-are ∙ sym (h .reads-as .rows-are))

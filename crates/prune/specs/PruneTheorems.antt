@@ -18,12 +18,11 @@ use Rattle.trees.specs.PruneLaws.{cut-le, cut-label, cut-none, cut-agree, stays
 use Rattle.trees.specs.Rows.{Entry, node, tip, rows, number}
 use Rattle.trees.specs.NumbersLaws.{number-inj}
 use Rattle.tables.specs.Refusals.{accepted, noRoom, badList}
-use Rattle.tables.specs.Records.{named, firstFault}
+use Rattle.tables.specs.PruningList.{named, firstFault, pruned}
 use Rattle.codec.specs.Writing.{entryBits, allBits, slipOf}
 use Rattle.codec.specs.MeasureLaws.{node-long, dangling-long, pair-long, slip-bits-long, slip-bytes-long}
 use Rattle.codec.specs.Proper.{AllProper}
-use Rattle.prune_rows.specs.Marks.{children}
-use Rattle.prune_rows.specs.Contracts.{pruned}
+use Rattle.tables.specs.Cells.{countCell}
 use Rattle.prune_rows.specs.Names.{InnerAt, CleanList, FaultyList}
 use Rattle.prune_rows.specs.NamesLaws.{countsOf, le-listed}
 use Rattle.prune_rows.specs.NamesLaws as Names
@@ -67,7 +66,7 @@ module _ (H : List ℕ → List ℕ) (composed : List ℕ → Bool) where
   clean-sent s list out n x clean =
       let good : checkOf H composed s .number ≡ accepted = ap (λ (a : Answer). a .number) (check-complete H composed s n x) in
       sym (prune-accepted H composed s list out good)
-      ∙ ap₂ (λ (es : List Entry) (m : Node). prunedOf H (map children es) list m out) (slip-rows H composed s n x) (slip-tree H composed s n x)
+      ∙ ap₂ (λ (es : List Entry) (m : Node). prunedOf H (map countCell es) list m out) (slip-rows H composed s n x) (slip-tree H composed s n x)
       ∙ sym (list-clean H (countsOf n) list out n (omega (arith, Names.clean-list n (proper-formed (rows n) (x .proper)) list clean)))
 
   -- a slip with room for it is handed out as it is
@@ -247,7 +246,7 @@ module _ (H : List ℕ → List ℕ) (composed : List ℕ → Bool) (long : (x :
     by-check below true t =
         let x = accepted-slip H composed s below (eqb-true _ _ t) in
         by-list (slipTree s) x
-        (rw t (ap (λ (es : List Entry). prunedOf H (map children es) list (slipTree s) out) (slip-rows H composed s (slipTree s) x))) _ refl
+        (rw t (ap (λ (es : List Entry). prunedOf H (map countCell es) list (slipTree s) out) (slip-rows H composed s (slipTree s) x))) _ refl
 
     pub prune-goes : Below 256 s → Goes s list out
     prune-goes below = by-check below _ refl

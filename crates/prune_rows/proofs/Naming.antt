@@ -9,7 +9,7 @@ use lib.Dec.{leb, ltb}
 use lib.ListN.{length, drop, getD, drop-of-length-le, List·getD-eq-default}
 use lib.Seq.{drop-cons}
 use borrow.Author.Tests.{lt-leb, le-leb, lt-ltb, le-ltb, ltb-true, ltb-false}
-use Rattle.tables.specs.Records.{named, firstFault}
+use Rattle.tables.specs.PruningList.{named, firstFault}
 use Rattle.prune_rows.specs.Steps.{Before}
 use Rattle.tables.specs.ListRule.{Rising, clean-rule, named-at, named-not}
 

@@ -5,10 +5,10 @@ use mathlib.Core.List.{List}
 use lib.ListN.{length, take}
 use Rattle.trees.specs.Nodes.{Node}
 use Rattle.trees.specs.Rules.{labelBytes}
-use Rattle.trees.specs.Places.{cut}
-use Rattle.trees.specs.Rows.{Entry, rows, number, prunedRows}
+use Rattle.trees.specs.Rows.{Entry, rows, prunedRows}
 use Rattle.tables.specs.Tables.{entries, firstBad, sum}
-use Rattle.tables.specs.Records.{Holds, named, firstFault}
+use Rattle.tables.specs.PruningList.{named, firstFault}
+use Rattle.tables.specs.Records.{Holds}
 
 -- the first rows of the columns, with the first bytes of the area, are the entries es and have the form of rows
 pub record Written (rows used : ℕ) (types counts lengths values : List ℕ) (es : List Entry) : Type 0 where
@@ -19,10 +19,6 @@ pub record Written (rows used : ℕ) (types counts lengths values : List ℕ) (e
   pub formed : firstBad 0 (take rows types) (take rows counts) (take rows lengths) ≡ rows
   pub sized : used ≡ sum (take rows lengths)
   pub are : entries (take rows types) (take rows counts) (take rows lengths) (take used values) ≡ es
-
--- the tree that pruning by the list leaves
-abbrev pub pruned : (List ℕ → List ℕ) → List ℕ → Node → Node
-pruned H list n = cut H (λ p. named list (number n p)) n
 
 -- a table that holds a tree, and a list without fault
 pub record Prunable (types counts lengths values labels list : List ℕ) : Type 0 where

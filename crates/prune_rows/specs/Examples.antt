@@ -6,9 +6,9 @@ use lib.ListN.{length}
 use Rattle.trees.specs.Nodes.{Node, inner, leaf, nil, cons}
 use Rattle.trees.specs.Rows.{node, tip, rows, prunedRows}
 use Rattle.trees.specs.RowLabels.{labelsOf}
-use Rattle.tables.specs.Records.{named, firstFault}
-use Rattle.prune_rows.specs.Contracts.{pruned}
-use Rattle.prune_rows.specs.Marks.{gone, kept, cutOff, children, atEnd, walk, marksOf}
+use Rattle.tables.specs.PruningList.{named, firstFault, pruned}
+use Rattle.tables.specs.Cells.{countCell}
+use Rattle.prune_rows.specs.Marks.{gone, kept, cutOff, atEnd, walk, marksOf}
 use Rattle.prune_rows.specs.Picked.{picked, rowBy}
 use Rattle.prune_rows.specs.Width.{width}
 
@@ -20,7 +20,7 @@ abbrev small : Node
 small = inner (cons (leaf 0 (9 ∷ [])) (cons (inner (cons (leaf 1 (7 ∷ [])) (cons (leaf 0 (8 ∷ [])) nil))) nil))
 
 abbrev counts : List ℕ
-counts = map children (rows small)
+counts = map countCell (rows small)
 
 pub small-counts : counts ≡ 0 ∷ 0 ∷ 0 ∷ 2 ∷ 2 ∷ []
 small-counts = refl

@@ -4,7 +4,6 @@ use mathlib.Core.Bool.{Bool, cond}
 use mathlib.Core.List.{List, [], _∷_, _++_}
 use lib.ListN.{replicate}
 use Rattle.trees.specs.Nodes.{Node, Run, inner, leaf, nil, cons, size, sizes}
-use Rattle.trees.specs.Rows.{Entry, node, tip}
 
 -- "its descendants go"
 abbrev pub gone : ℕ
@@ -17,11 +16,6 @@ kept = 1
 -- "Each becomes dangling with its label"
 abbrev pub cutOff : ℕ
 cutOff = 2
-
--- the children that an entry names
-abbrev pub children : Entry → ℕ
-children (node k) = k
-children (tip t v) = 0
 
 -- the marks of the rows from one on, and how many subtrees before it are still owed to a row that is cut off
 pub record Walk : Type 0 where

@@ -9,7 +9,8 @@ use lib.ListN.{length, getD, replicate, length-append, length-map, length-replic
 use Rattle.trees.specs.Nodes.{Node, Run, inner, leaf, nil, cons, count, size, sizes}
 use Rattle.trees.specs.Rows.{Entry, node, rows, rowsIn}
 use Rattle.trees.specs.RowsLaws.{length-rows, length-rows-in}
-use Rattle.prune_rows.specs.Marks.{state, gone, kept, cutOff, children, Walk, markBy, stepBack, walk, marksOf, marksIn}
+use Rattle.tables.specs.Cells.{countCell}
+use Rattle.prune_rows.specs.Marks.{state, gone, kept, cutOff, Walk, markBy, stepBack, walk, marksOf, marksIn}
 
 shift : (i k : ℕ) → i + suc k ≡ i + 1 + k
 shift i k = omega arith
@@ -34,39 +35,39 @@ module _ (f : ℕ → Bool) where
 
   -- the same over the children of entries whose number is known
   rows-append : (es fs : List Entry) (i k : ℕ) (w : Walk) → length es ≡ k
-      → walk f (map children (es ++ fs)) i w ≡ walk f (map children es) i (walk f (map children fs) (i + k) w)
+      → walk f (map countCell (es ++ fs)) i w ≡ walk f (map countCell es) i (walk f (map countCell fs) (i + k) w)
   rows-append es fs i k w e =
-      ap (λ (l : List ℕ). walk f l i w) (map-append children es fs)
-      ∙ walk-append (map children es) (map children fs) i w
-      ∙ ap (λ (j : ℕ). walk f (map children es) i (walk f (map children fs) (i + j) w)) (length-map es children ∙ e)
+      ap (λ (l : List ℕ). walk f l i w) (map-append countCell es fs)
+      ∙ walk-append (map countCell es) (map countCell fs) i w
+      ∙ ap (λ (j : ℕ). walk f (map countCell es) i (walk f (map countCell fs) (i + j) w)) (length-map es countCell ∙ e)
 
   -- where subtrees are owed, a tree's rows go, and one is owed less
   mutual
-    pub walk-gone : (n : Node) (b o : ℕ) (ms : List ℕ) → walk f (map children (rows n)) b (state ms (suc o)) ≡ state (replicate (size n) gone ++ ms) o
+    pub walk-gone : (n : Node) (b o : ℕ) (ms : List ℕ) → walk f (map countCell (rows n)) b (state ms (suc o)) ≡ state (replicate (size n) gone ++ ms) o
     walk-gone (inner r) b o ms =
         rows-append (rowsIn r) (node (count r) ∷ []) b (sizes r) (state ms (suc o)) (length-rows-in r)
-        ∙ ap (λ (k : ℕ). walk f (map children (rowsIn r)) b (state (gone ∷ ms) k)) (swap o (count r))
+        ∙ ap (λ (k : ℕ). walk f (map countCell (rowsIn r)) b (state (gone ∷ ms) k)) (swap o (count r))
         ∙ walk-gone-in r b o (gone ∷ ms)
         ∙ ap (λ (l : List ℕ). state l o) (copies (sizes r) 1 ms)
     walk-gone (leaf t v) b o ms = ap (state (gone ∷ ms)) (add-zero o)
 
     pub walk-gone-in : (r : Run) (b o : ℕ) (ms : List ℕ)
-        → walk f (map children (rowsIn r)) b (state ms (count r + o)) ≡ state (replicate (sizes r) gone ++ ms) o
+        → walk f (map countCell (rowsIn r)) b (state ms (count r + o)) ≡ state (replicate (sizes r) gone ++ ms) o
     walk-gone-in nil b o ms = ap (state ms) (omega arith)
     walk-gone-in (cons n r) b o ms =
         rows-append (rows n) (rowsIn r) b (size n) (state ms (suc (count r) + o)) (length-rows n)
-        ∙ ap (λ (k : ℕ). walk f (map children (rows n)) b (walk f (map children (rowsIn r)) (b + size n) (state ms k))) (onto (count r) o)
-        ∙ ap (walk f (map children (rows n)) b) (walk-gone-in r (b + size n) (suc o) ms)
+        ∙ ap (λ (k : ℕ). walk f (map countCell (rows n)) b (walk f (map countCell (rowsIn r)) (b + size n) (state ms k))) (onto (count r) o)
+        ∙ ap (walk f (map countCell (rows n)) b) (walk-gone-in r (b + size n) (suc o) ms)
         ∙ walk-gone n b o (replicate (sizes r) gone ++ ms)
         ∙ ap (λ (l : List ℕ). state l o) (copies (size n) (sizes r) ms)
 
   -- an internal node's rows, where it is named or not
   node-marks : (r : Run) (b : ℕ) (ms : List ℕ) (c : Bool)
-      → ((ns : List ℕ) → walk f (map children (rowsIn r)) b (state ns 0) ≡ state (marksIn f b r ++ ns) 0)
-      → walk f (map children (rowsIn r)) b (stepBack c (count r) (state ms 0))
+      → ((ns : List ℕ) → walk f (map countCell (rowsIn r)) b (state ns 0) ≡ state (marksIn f b r ++ ns) 0)
+      → walk f (map countCell (rowsIn r)) b (stepBack c (count r) (state ms 0))
       ≡ state (cond c (replicate (sizes r) gone ++ (cutOff ∷ [])) (marksIn f b r ++ (kept ∷ [])) ++ ms) 0
   node-marks r b ms true h =
-      ap (λ (k : ℕ). walk f (map children (rowsIn r)) b (state (cutOff ∷ ms) k)) (sym (add-zero (count r)))
+      ap (λ (k : ℕ). walk f (map countCell (rowsIn r)) b (state (cutOff ∷ ms) k)) (sym (add-zero (count r)))
       ∙ walk-gone-in r b 0 (cutOff ∷ ms)
       ∙ ap (λ (l : List ℕ). state l 0) (sym (append-assoc (replicate (sizes r) gone) (cutOff ∷ []) ms))
   node-marks r b ms false h =
@@ -78,17 +79,17 @@ module _ (f : ℕ → Bool) where
 
   -- where nothing is owed, a tree's rows get the tree's marks, and nothing is owed before them
   mutual
-    pub walk-marks : (n : Node) (b : ℕ) (ms : List ℕ) → walk f (map children (rows n)) b (state ms 0) ≡ state (marksOf f b n ++ ms) 0
+    pub walk-marks : (n : Node) (b : ℕ) (ms : List ℕ) → walk f (map countCell (rows n)) b (state ms 0) ≡ state (marksOf f b n ++ ms) 0
     walk-marks (inner r) b ms =
         rows-append (rowsIn r) (node (count r) ∷ []) b (sizes r) (state ms 0) (length-rows-in r)
         ∙ node-marks r b ms (f (b + sizes r)) (λ ns. walk-marks-in r b ns)
     walk-marks (leaf t v) b ms = leaf-marks (f b) ms
 
-    pub walk-marks-in : (r : Run) (b : ℕ) (ms : List ℕ) → walk f (map children (rowsIn r)) b (state ms 0) ≡ state (marksIn f b r ++ ms) 0
+    pub walk-marks-in : (r : Run) (b : ℕ) (ms : List ℕ) → walk f (map countCell (rowsIn r)) b (state ms 0) ≡ state (marksIn f b r ++ ms) 0
     walk-marks-in nil b ms = refl
     walk-marks-in (cons n r) b ms =
         rows-append (rows n) (rowsIn r) b (size n) (state ms 0) (length-rows n)
-        ∙ ap (walk f (map children (rows n)) b) (walk-marks-in r (b + size n) ms)
+        ∙ ap (walk f (map countCell (rows n)) b) (walk-marks-in r (b + size n) ms)
         ∙ walk-marks n b (marksIn f (b + size n) r ++ ms)
         ∙ ap (λ (l : List ℕ). state l 0) (sym (append-assoc (marksOf f b n) (marksIn f (b + size n) r) ms))
 

@@ -21,10 +21,9 @@ use Rattle.trees.specs.PruneLaws.{cut-le, cut-onto, cut-agree}
 use Rattle.trees.specs.Rows.{Entry, node, tip, formed, rows, lastRow, number, numberIn}
 use Rattle.trees.specs.RowsLaws.{length-rows}
 use Rattle.trees.specs.NumbersLaws.{Numbered, number-low, number-in-low, number-onto, entry-at}
-use Rattle.tables.specs.Records.{named, firstFault}
+use Rattle.tables.specs.PruningList.{named, firstFault, pruned}
 use Rattle.tables.specs.ListRule.{Clean, Faulty, falls, outside, childless, clean-none, clean-cons, clean-tail, clean-rule, rule-clean, fault-told, fault-is, named-at}
-use Rattle.prune_rows.specs.Marks.{children}
-use Rattle.prune_rows.specs.Contracts.{pruned}
+use Rattle.tables.specs.Cells.{countCell}
 use Rattle.prune_rows.specs.Names.{InnerAt, LeafAt, CleanList, Misnames, FaultyList, numbers, numbersIn}
 use Rattle.prune_rows.specs.Names as Names
 
@@ -36,14 +35,14 @@ all-at f (x ∷ l) (suc k) d e h = all-at f l k d (and-right (f x) (all f l) e) 
 
 -- the tree's children, row by row
 abbrev pub countsOf : Node → List ℕ
-countsOf n = map children (rows n)
+countsOf n = map countCell (rows n)
 
 counts-long : (n : Node) → length (countsOf n) ≡ size n
-counts-long n = length-map (rows n) children ∙ length-rows n
+counts-long n = length-map (rows n) countCell ∙ length-rows n
 
 -- the count of a node's row
-count-at : (n : Node) (p : Place) (x : Node) → nodeAt n p ≡ some x → getD (countsOf n) (number n p) 0 ≡ children (lastRow x)
-count-at n p x e = List·getD-map children (rows n) (number n p) (tip 0 []) ∙ ap children (entry-at n p x e (tip 0 []))
+count-at : (n : Node) (p : Place) (x : Node) → nodeAt n p ≡ some x → getD (countsOf n) (number n p) 0 ≡ countCell (lastRow x)
+count-at n p x e = List·getD-map countCell (rows n) (number n p) (tip 0 []) ∙ ap countCell (entry-at n p x e (tip 0 []))
 
 module _ (n : Node) (form : all formed (rows n) ≡ true) where
   -- a row of the form names a child if it is internal

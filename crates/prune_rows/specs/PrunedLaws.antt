@@ -16,10 +16,12 @@ use Rattle.trees.specs.RowLabels.{labelsOf}
 use Rattle.trees.specs.RowLabelsLaws.{length-labels}
 use Rattle.tables.specs.Tables.{entryOf, entries, sum}
 use Rattle.tables.specs.TablesLaws.{length-entries}
-use Rattle.tables.specs.Records.{Holds, named, firstFault}
-use Rattle.prune_rows.specs.Marks.{children, Walk, atEnd, walk, marksOf}
+use Rattle.tables.specs.PruningList.{named, firstFault, pruned}
+use Rattle.tables.specs.Records.{Holds}
+use Rattle.tables.specs.Cells.{countCell}
+use Rattle.prune_rows.specs.Marks.{Walk, atEnd, walk, marksOf}
 use Rattle.prune_rows.specs.Picked.{picked, rowBy, labelRows}
-use Rattle.prune_rows.specs.Contracts.{Written, pruned}
+use Rattle.prune_rows.specs.Contracts.{Written}
 use Rattle.prune_rows.specs.MarksLaws.{walk-marks, cut-off-named}
 use Rattle.prune_rows.specs.PickedLaws.{picked-take, picked-agree, length-label-rows, label-rows-at}
 use Rattle.prune_rows.specs.PickedTrees.{picked-rows}
@@ -88,7 +90,7 @@ module _ (H : List ℕ → List ℕ) (n : Node) (types counts lengths values lab
       ap (λ (k : ℕ). take k marks) (entries-long ∙ sym (holds .counts-long))
       ∙ marked
       ∙ ap (λ (cs : List ℕ). walk (named list) cs 0 atEnd .marks)
-      (sym (entries-counts types counts lengths values (holds .counts-long) (holds .lengths-long)) ∙ ap (map children) (holds .rows-are))
+      (sym (entries-counts types counts lengths values (holds .counts-long) (holds .lengths-long)) ∙ ap (map countCell) (holds .rows-are))
       ∙ ap (λ (w : Walk). w .marks) (walk-marks (named list) n 0 [])
       ∙ append-nil (marksOf (named list) 0 n)
 

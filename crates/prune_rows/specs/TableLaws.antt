@@ -8,14 +8,14 @@ use lib.ListN.{length, take, drop, getD, length-drop}
 use lib.Seq.{take-append-le, drop-append-le, drop-drop}
 use Rattle.trees.specs.Rows.{Entry}
 use Rattle.tables.specs.Tables.{entryOf, entries, rowFits, firstBad, sum}
-use Rattle.prune_rows.specs.Marks.{children}
+use Rattle.tables.specs.Cells.{countCell}
 
-pub children-of : (t c : ℕ) (v : List ℕ) → children (entryOf t c v) ≡ c
+pub children-of : (t c : ℕ) (v : List ℕ) → countCell (entryOf t c v) ≡ c
 children-of t zero v = refl
 children-of t (suc c) v = refl
 
 -- the column of counts is what the entries name
-pub entries-counts : (ts cs ls vs : List ℕ) → length cs ≡ length ts → length ls ≡ length ts → map children (entries ts cs ls vs) ≡ cs
+pub entries-counts : (ts cs ls vs : List ℕ) → length cs ≡ length ts → length ls ≡ length ts → map countCell (entries ts cs ls vs) ≡ cs
 entries-counts [] [] ls vs p q = refl
 entries-counts [] (c ∷ cs) ls vs p q = absurd (omega arith)
 entries-counts (t ∷ ts) [] ls vs p q = absurd (omega arith)

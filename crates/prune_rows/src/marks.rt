@@ -5,7 +5,7 @@ ghost use Prim.Native.Nat.{_+_, _^_, _≤_, _<_};
 ghost use lib.Dec.{ltb};
 ghost use lib.ListN.{length, take};
 ghost use Rattle.trees.specs.Rules.{maxNodes};
-ghost use Rattle.tables.specs.Records.{named, firstFault};
+ghost use Rattle.tables.specs.PruningList.{named, firstFault};
 ghost use Rattle.prune_rows.specs.Marks.{markBy, owedBy, walk, atEnd};
 ghost use Rattle.prune_rows.specs.Steps.{Before};
 ghost use Rattle.tables.specs.ListRule.{Rising};

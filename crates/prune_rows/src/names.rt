@@ -4,7 +4,7 @@ ghost use mathlib.Core.Path.{_≡_};
 ghost use mathlib.Core.Bool.{_&&_};
 ghost use lib.Dec.{leb, ltb};
 ghost use lib.ListN.{getD};
-ghost use Rattle.tables.specs.Records.{firstFault};
+ghost use Rattle.tables.specs.PruningList.{firstFault};
 
 // Whether x may follow where no number below `low` may, and is that of an internal row.
 fn may_follow(x: usize, low: usize, counts: &[u16]) -> bool

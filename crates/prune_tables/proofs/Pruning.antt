@@ -5,7 +5,8 @@ use Prim.Native.Nat.{ℕ, _≤_}
 use native.Mathlib.Omega.{arith}
 use Rattle.trees.specs.Nodes.{Node}
 use Rattle.trees.specs.Rows.{prunedRows}
-use Rattle.tables.specs.Records.{Holds, named}
+use Rattle.tables.specs.PruningList.{named}
+use Rattle.tables.specs.Records.{Holds}
 use Rattle.sha2.specs.Sha256 as Sha256
 use Rattle.prune_rows.specs.Contracts.{Written, Prunable, Prunes}
 use Rattle.prune_rows.specs.Steps.{Pickable, Picks}

@@ -5,8 +5,8 @@ use mathlib.Core.Path.{_≡_}
 use lib.ListN.{length}
 use Rattle.trees.specs.Nodes.{Node, label}
 use Rattle.trees.specs.Rules.{maxBytes}
-use Rattle.tables.specs.Records.{Holds, firstFault}
-use Rattle.prune_rows.specs.Contracts.{pruned}
+use Rattle.tables.specs.PruningList.{firstFault, pruned}
+use Rattle.tables.specs.Records.{Holds}
 use Rattle.sha2.specs.Sha256 as Sha256
 use Rattle.send.specs.Sent.{sentTree}
 use Rattle.slips.specs.declared.answer.Answer.{Answer}

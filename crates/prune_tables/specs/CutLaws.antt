@@ -10,9 +10,10 @@ use Rattle.trees.specs.Nodes.{Node, label}
 use Rattle.trees.specs.PruneLaws.{cut-label}
 use Rattle.trees.specs.Rows.{number, prunedRows}
 use Rattle.tables.specs.Refusals.{badList}
-use Rattle.tables.specs.Records.{TreeTable, Holds, named, firstFault}
+use Rattle.tables.specs.PruningList.{named, firstFault, pruned}
+use Rattle.tables.specs.Records.{TreeTable, Holds}
 use Rattle.tables.specs.ListRule.{fault-within}
-use Rattle.prune_rows.specs.Contracts.{Written, Prunes, pruned}
+use Rattle.prune_rows.specs.Contracts.{Written, Prunes}
 use Rattle.prune_rows.specs.PrunedLaws.{rows-pruned}
 use Rattle.slips.specs.declared.answer.Answer.{Answer}
 use Rattle.slips.specs.Answers.{refused}

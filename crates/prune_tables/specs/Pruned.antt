@@ -7,8 +7,7 @@ use lib.ListN.{length}
 use Rattle.refusals.specs.Chain.{chain}
 use Rattle.trees.specs.Nodes.{Node}
 use Rattle.tables.specs.Refusals.{badList}
-use Rattle.tables.specs.Records.{firstFault}
-use Rattle.prune_rows.specs.Contracts.{pruned}
+use Rattle.tables.specs.PruningList.{firstFault, pruned}
 use Rattle.slips.specs.Answers.{refused}
 use Rattle.slips.specs.Output.{Packed, still}
 use Rattle.send.specs.Sent.{sentTree}

@@ -12,8 +12,8 @@ use Rattle.lists.specs.TestsLaws.{and-left, and-right, or-cases}
 use Rattle.trees.specs.Nodes.{Node, Run, inner, leaf, nil, cons, count}
 use Rattle.trees.specs.Rules.{maxType, maxValue, maxChildren, labelBytes}
 use Rattle.trees.specs.Rows.{Entry, node, tip, rows, rowsIn}
-use Rattle.tables.specs.Tables.{entries, entryOf, rowFits, internalRow, danglingRow, pairRow, sum, table}
-use Rattle.tables.specs.TablesLaws.{Formed, formed-row}
+use Rattle.tables.specs.Tables.{entries, entryOf, rowFits, internalRow, danglingRow, pairRow, sum, table, Formed}
+use Rattle.tables.specs.TablesLaws.{formed-row}
 use Rattle.tables.specs.Records.{TreeTable}
 use Rattle.send.specs.Blocks.{Enough}
 
@@ -84,7 +84,7 @@ pub table-low :
     → (getD cs i 0 ≤ maxChildren) × (getD ls i 0 ≤ maxValue)
 table-low n ts cs ls vs t i h =
     let f : Formed (table ts cs ls (take (sum ls) vs)) = record {
-      columns = record { counted = t .counts-long; measured = t .lengths-long; few = t .few };
+      columns = record { counts-long = t .counts-long; lengths-long = t .lengths-long; few = t .few };
       rows = t .formed;
       area = length-take-le (sum ls) vs (t .area);
     } in

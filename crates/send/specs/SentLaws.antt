@@ -12,7 +12,8 @@ use Rattle.codec.specs.Writing.{slipOf}
 use Rattle.slips.specs.declared.answer.Answer.{Answer}
 use Rattle.slips.specs.Answers.{refused, taken}
 use Rattle.slips.specs.Output.{over, Packed, Packs}
-use Rattle.send.specs.Sent.{Sendable, sent, sentTree}
+use Rattle.send.specs.Contracts.{Sendable}
+use Rattle.send.specs.Sent.{sent, sentTree}
 
 module _ (es : List Entry) (b : ℕ) (l out : List ℕ) where
   pub sent-roomless : length out < length (slipOf es) → {r : Answer} → r ≡ refused noRoom 0 → Packs (sent es b l out) r out
@@ -28,7 +29,7 @@ module _ (es : List Entry) (b : ℕ) (l out : List ℕ) where
 pub tree-sendable : {n : Node} {types counts lengths values : List ℕ} → TreeTable n types counts lengths values → Sendable types counts lengths values
 tree-sendable t =
     record {
-      columns = record { sameCounts = t .counts-long; sameLengths = t .lengths-long; few = t .few };
+      columns = record { counts-long = t .counts-long; lengths-long = t .lengths-long; few = t .few };
       form = t .formed;
       filled = t .area;
     }

@@ -9,7 +9,8 @@ use tables::limits::Slip;
 use tables::refusals::Refusal;
 ghost use Rattle.tables.specs.Tables.{entries};
 ghost use Rattle.slips.specs.Output.{Packs};
-ghost use Rattle.send.specs.Sent.{Sendable, SendTreeAsks, SendTreeGives, sent};
+ghost use Rattle.send.specs.Contracts.{Sendable, SendTreeAsks, SendTreeGives};
+ghost use Rattle.send.specs.Sent.{sent};
 
 // Writes the slip of a table whose blocks and root label are told, or answers 11.
 pub fn send(

@@ -3,6 +3,8 @@ pub mod Limits
 pub mod Areas
 pub mod Refusals
 pub mod Tables
-pub mod TablesLaws
+pub mod Cells
+pub mod PruningList
 pub mod Records
+pub mod TablesLaws
 pub mod ListRule

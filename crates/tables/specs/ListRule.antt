@@ -8,7 +8,7 @@ use lib.Dec.{leb, ltb, eqb}
 use lib.ListN.{length, getD, take, List·getD-eq-default}
 use borrow.Author.Tests.{leb-true, leb-false, ltb-true, ltb-false, le-leb, lt-leb, lt-ltb, eq-eqb, ne-eqb, eqb-true}
 use Rattle.lists.specs.TestsLaws.{and-left, and-right, and-both, or-cases}
-use Rattle.tables.specs.Records.{named, firstFault}
+use Rattle.tables.specs.PruningList.{named, firstFault}
 
 -- "strictly rising"
 abbrev pub Rising : List ℕ → Type 0

@@ -1,10 +1,7 @@
 -- A table that holds a tree, with the label of each internal row beside it.
 use Prim.Native.Nat.{ℕ, _*_, _≤_, _<_}
-use mathlib.Core.Bool.{Bool, false, cond, _&&_, _||_}
-use mathlib.Core.List.{List, [], _∷_}
+use mathlib.Core.List.{List, []}
 use mathlib.Core.Path.{_≡_}
-use Prim.Native.Nat.{_+_}
-use lib.Dec.{leb, ltb, eqb}
 use lib.ListN.{length, take, drop, getD}
 use Rattle.trees.specs.Nodes.{Node}
 use Rattle.trees.specs.Rules.{labelBytes, maxNodes}
@@ -35,15 +32,3 @@ pub record Holds (H : List ℕ → List ℕ) (n : Node) (types counts lengths va
       → k < length types
       → 0 < getD counts k 0
       → take labelBytes (drop (labelBytes * k) labels) ≡ getD (labelsOf H n) k []
-
--- the pruning list names entry k
-unfoldable pub named : List ℕ → ℕ → Bool
-named [] k = false
-named (x ∷ xs) k = eqb x k || named xs k
-
--- "The pruning list names entry numbers of internal nodes, strictly rising": the index of "the first faulty index in the list", counted
--- from i, where no number below low may follow; the list's end where none is faulty. An entry out of range has no children.
-unfoldable pub firstFault : List ℕ → ℕ → ℕ → List ℕ → ℕ
-firstFault counts i low [] = i
-firstFault counts i low (x ∷ xs) =
-    cond (leb low x && ltb 0 (getD counts x 0)) (firstFault counts (i + 1) (x + 1) xs) i

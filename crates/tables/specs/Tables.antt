@@ -1,7 +1,8 @@
 -- The unpacked table: "Three columns (types, child counts, lengths), one row an entry, and one area with the values and dangling labels end to end."
-use Prim.Native.Nat.{ℕ, zero, suc, _+_}
+use Prim.Native.Nat.{ℕ, zero, suc, _+_, _≤_}
 use mathlib.Core.Bool.{Bool, not, cond, _&&_, _||_}
 use mathlib.Core.List.{List, [], _∷_}
+use mathlib.Core.Path.{_≡_}
 use lib.Dec.{leb, ltb, eqb}
 use lib.ListN.{length, take, drop}
 use Rattle.trees.specs.Rules.{maxType, maxValue, maxChildren, labelBytes, maxNodes}
@@ -72,3 +73,15 @@ areaFits t = eqb (length (t .values)) (sum (t .lengths))
 -- what number 16 would not refuse: the three tests that the packer makes in turn
 unfoldable pub tableFits : Table → Bool
 tableFits t = columnsFit (t .types) (t .counts) (t .lengths) && not (rowBad t) && areaFits t
+
+-- columns of one length, of no more rows than a slip has: what `columnsFit` tests
+pub record Columns (ts cs ls : List ℕ) : Type 0 where
+  pub counts-long : length cs ≡ length ts
+  pub lengths-long : length ls ≡ length ts
+  pub few : length ts ≤ maxNodes
+
+-- a table of the form: what `tableFits` tests
+pub record Formed (t : Table) : Type 0 where
+  pub columns : Columns (t .types) (t .counts) (t .lengths)
+  pub rows : firstBad 0 (t .types) (t .counts) (t .lengths) ≡ length (t .types)
+  pub area : length (t .values) ≡ sum (t .lengths)

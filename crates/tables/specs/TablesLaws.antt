@@ -11,13 +11,7 @@ use borrow.Author.Tests.{eqb-true, leb-true, ltb-false, not-true}
 use Rattle.trees.specs.Rules.{maxType, maxValue, maxChildren, labelBytes, maxNodes}
 use Rattle.trees.specs.Rows.{Entry}
 use Rattle.lists.specs.TestsLaws.{and-left, and-right, or-cases}
-use Rattle.tables.specs.Tables.{Table, columnsFit, rowBad, areaFits, tableFits, internalRow, danglingRow, pairRow, rowFits, firstBad, sum, entries, entryOf}
-
--- columns that fit
-pub record Columns (ts cs ls : List ℕ) : Type 0 where
-  pub counted : length cs ≡ length ts
-  pub measured : length ls ≡ length ts
-  pub few : length ts ≤ maxNodes
+use Rattle.tables.specs.Tables.{Table, Columns, Formed, columnsFit, rowBad, areaFits, tableFits, internalRow, danglingRow, pairRow, rowFits, firstBad, sum, entries, entryOf}
 
 pub columns-told : (ts cs ls : List ℕ) → columnsFit ts cs ls ≡ true → Columns ts cs ls
 unfolding columnsFit
@@ -27,16 +21,10 @@ columns-told ts cs ls e =
     let d = leb (length ts) maxNodes in
     let f = and-left (a && b) d e in
     record {
-      counted = eqb-true _ _ (and-left a b f);
-      measured = eqb-true _ _ (and-right a b f);
+      counts-long = eqb-true _ _ (and-left a b f);
+      lengths-long = eqb-true _ _ (and-right a b f);
       few = leb-true _ _ (and-right (a && b) d e);
     }
-
--- a table of the form
-pub record Formed (t : Table) : Type 0 where
-  pub columns : Columns (t .types) (t .counts) (t .lengths)
-  pub rows : firstBad 0 (t .types) (t .counts) (t .lengths) ≡ length (t .types)
-  pub area : length (t .values) ≡ sum (t .lengths)
 
 -- the first bad row is at most the number of rows
 either-most : (b : Bool) (x y n : ℕ) → x ≤ n → y ≤ n → cond b x y ≤ n
@@ -136,9 +124,9 @@ pub entries-at :
     → getD (entries ts cs ls vs) j d ≡ entryOf (getD ts j 0) (getD cs j 0) (take (getD ls j 0) (drop (sum (take j ls)) vs))
 unfolding sum
 entries-at [] cs ls vs f j d h = absurd (omega arith)
-entries-at (t ∷ ts) [] ls vs f j d h = absurd (omega (arith, f .counted))
-entries-at (t ∷ ts) (c ∷ cs) [] vs f j d h = absurd (omega (arith, f .measured))
+entries-at (t ∷ ts) [] ls vs f j d h = absurd (omega (arith, f .counts-long))
+entries-at (t ∷ ts) (c ∷ cs) [] vs f j d h = absurd (omega (arith, f .lengths-long))
 entries-at (t ∷ ts) (c ∷ cs) (l ∷ ls) vs f zero d h = refl
 entries-at (t ∷ ts) (c ∷ cs) (l ∷ ls) vs f (suc j) d h =
-    entries-at ts cs ls (drop l vs) (record { counted = omega (arith, f .counted); measured = omega (arith, f .measured); few = omega (arith, f .few) }) j d (omega arith)
+    entries-at ts cs ls (drop l vs) (record { counts-long = omega (arith, f .counts-long); lengths-long = omega (arith, f .lengths-long); few = omega (arith, f .few) }) j d (omega arith)
     ∙ rw (drop-drop (sum (take j ls)) l vs)

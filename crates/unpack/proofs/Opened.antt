@@ -10,7 +10,7 @@ use Rattle.slips.specs.declared.open.Opened.{Opened}
 use Rattle.slips.specs.Check.{readingOf}
 use Rattle.slips.specs.Opening.{Opens}
 use Rattle.unpack.specs.Unpack.{tableOf, handedOf, Leaves}
-use Rattle.unpack.specs.ColumnsLaws.{table-back}
+use Rattle.unpack.specs.CellsLaws.{table-back}
 
 -- the table opened is that of the rows read
 pub opened-table : {s : List ℕ} {r : Opened} {types counts lengths values labels : List ℕ} → Opens s r types counts lengths values labels

@@ -1,6 +1,5 @@
 -- What the unpacker answers and leaves in its buffers.
-pub mod Columns
 pub mod Unpack
-pub mod ColumnsLaws
+pub mod CellsLaws
 pub mod UnpackLaws
 pub mod OneAnswer

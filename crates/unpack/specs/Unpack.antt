@@ -13,7 +13,7 @@ use Rattle.slips.specs.declared.answer.Answer.{Answer}
 use Rattle.slips.specs.Answers.{refused}
 use Rattle.slips.specs.Output.{over}
 use Rattle.slips.specs.Check.{readingOf, checkOf}
-use Rattle.unpack.specs.Columns.{typeCell, countCell, lengthCell, valuesOf}
+use Rattle.tables.specs.Cells.{typeCell, countCell, lengthCell, valuesOf}
 
 -- an answer, and what the buffers hold
 pub record Unpacked : Type 0 where

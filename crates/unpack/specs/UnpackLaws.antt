@@ -9,8 +9,7 @@ use lib.Dec.{eqb}
 use lib.ListN.{length, take, drop}
 use lib.Seq.{take-at}
 use Rattle.tables.specs.Refusals.{accepted}
-use Rattle.tables.specs.Tables.{Table, sum}
-use Rattle.tables.specs.TablesLaws.{Formed}
+use Rattle.tables.specs.Tables.{Table, sum, Formed}
 use Rattle.slips.specs.declared.answer.Answer.{Answer}
 use Rattle.slips.specs.Output.{over}
 use Rattle.unpack.specs.Unpack.{lacksRoom, overAll, handedOf, tableIn}
@@ -58,7 +57,7 @@ front x y = take-at x (drop (length x) y) (length x) refl
 pub in-over : (t b : Table) → Formed t → tableIn (length (t .types)) (overAll t b) ≡ t
 in-over t b f =
     let ts = front (t .types) (b .types) in
-    let cs : take (length (t .types)) (over (t .counts) (b .counts)) ≡ t .counts = rw (sym (f .columns .counted)) (front (t .counts) (b .counts)) in
-    let ls : take (length (t .types)) (over (t .lengths) (b .lengths)) ≡ t .lengths = rw (sym (f .columns .measured)) (front (t .lengths) (b .lengths)) in
+    let cs : take (length (t .types)) (over (t .counts) (b .counts)) ≡ t .counts = rw (sym (f .columns .counts-long)) (front (t .counts) (b .counts)) in
+    let ls : take (length (t .types)) (over (t .lengths) (b .lengths)) ≡ t .lengths = rw (sym (f .columns .lengths-long)) (front (t .lengths) (b .lengths)) in
     let vs : take (sum (t .lengths)) (over (t .values) (b .values)) ≡ t .values = rw (sym (f .area)) (front (t .values) (b .values)) in
     rw (ts, cs, ls, vs)

@@ -19,7 +19,7 @@ write-requires c κs =
     let r = c .before .before .before .answer-of .ensures .roomy (c .before .if1 .left) in
     let k = r .form .columns in
     record {
-      columns = record { sameCounts = k .counted; sameLengths = k .measured; few = k .few };
+      columns = k;
       form = r .form .rows;
       filled = omega (arith, r .form .area);
       room = r .fits;

@@ -5,8 +5,8 @@ use lib.Seq.{length-take-le}
 use Rattle.sha2.specs.Sha256 as Sha256
 use Rattle.sha2.specs.Blocks.{label-long}
 use Rattle.trees.specs.Rows.{prunedRows}
-use Rattle.tables.specs.Records.{named}
-use Rattle.prune_rows.specs.Contracts.{Written, Prunes, pruned}
+use Rattle.tables.specs.PruningList.{named, pruned}
+use Rattle.prune_rows.specs.Contracts.{Written, Prunes}
 use Rattle.prune_tables.specs.CutLaws.{written, pruned-table, root-kept}
 use Rattle.prune_tables.proofs.Pruning.{able, pickable, prunes}
 use borrow.Author.Needs.{needs}

@@ -20,10 +20,10 @@ loop-holds : tie.Need-loop-holds Inv-loop μ-loop
 loop-holds c = (table-bits-start _ _ _, omega arith, omega arith)
 
 cell-requires-2 : tie.Need-cell-requires-2 Inv-loop μ-loop
-cell-requires-2 c κs = omega (arith, c .before .before .before .before .before .before .pre .sameCounts, c .before .loop-test .taken)
+cell-requires-2 c κs = omega (arith, c .before .before .before .before .before .before .pre .counts-long, c .before .loop-test .taken)
 
 cell-requires-3 : tie.Need-cell-requires-3 Inv-loop μ-loop
-cell-requires-3 c κs = omega (arith, c .before .before .before .before .before .before .before .pre .sameLengths, c .before .before .loop-test .taken)
+cell-requires-3 c κs = omega (arith, c .before .before .before .before .before .before .before .pre .lengths-long, c .before .before .loop-test .taken)
 
 add-total-2 : tie.Need-add-total-2 Inv-loop μ-loop
 add-total-2 c = omega (arith, c .row-bits .ensures .1, c .before .before .before .before .before .loop .inv .1, c .before .before .before .before .before .loop .inv .2, c .before .before .before .before .before .before .before .before .before .pre .few)
@@ -34,7 +34,7 @@ loop-again c =
     let l = c .before .before .before .before .before .loop in
     let row : c .row-bits .result ≡ rowBits (getD (s .args .types .now) (l .i) 0) (getD (s .args .counts .now) (l .i) 0) (getD (s .args .lengths .now) (l .i) 0) =
     c .row-bits .ensures .0 ∙ (λ j. rowBits (c .before .before .before .cell .ensures .0 j) (c .before .before .cell2 .ensures .0 j) (c .before .cell3 .ensures .0 j)) in (
-      omega (arith, l .inv .0, row, rows-bits-off (s .args .types .now) (s .args .counts .now) (s .args .lengths .now) (l .i) (s .pre .sameCounts) (s .pre .sameLengths) (c .before .before .before .before .loop-test .taken)),
+      omega (arith, l .inv .0, row, rows-bits-off (s .args .types .now) (s .args .counts .now) (s .args .lengths .now) (l .i) (s .pre .counts-long) (s .pre .lengths-long) (c .before .before .before .before .loop-test .taken)),
       omega (arith, c .row-bits .ensures .1, l .inv .1),
       omega (arith, c .before .before .before .before .loop-test .taken),
     )

@@ -27,10 +27,10 @@ loop-holds c =
     (begun (s .args .types .now) (s .args .counts .now) (s .args .lengths .now) (s .args .values .now) (h .result) (h .last .1 .0) (h .ensures .ready) (s .pre .form) (s .pre .filled), refl)
 
 cell-requires-2 : tie.Need-cell-requires-2 Inv-loop μ-loop
-cell-requires-2 c κs = omega (arith, c .before .before .before .before .before .before .before .before .before .before .before .before .pre .columns .sameCounts, c .before .loop-test .taken)
+cell-requires-2 c κs = omega (arith, c .before .before .before .before .before .before .before .before .before .before .before .before .pre .columns .counts-long, c .before .loop-test .taken)
 
 cell-requires-3 : tie.Need-cell-requires-3 Inv-loop μ-loop
-cell-requires-3 c κs = omega (arith, c .before .before .before .before .before .before .before .before .before .before .before .before .before .pre .columns .sameLengths, c .before .before .loop-test .taken)
+cell-requires-3 c κs = omega (arith, c .before .before .before .before .before .before .before .before .before .before .before .before .before .pre .columns .lengths-long, c .before .before .loop-test .taken)
 
 add-end : tie.Need-add-end Inv-loop μ-loop
 add-end c =

@@ -17,7 +17,7 @@ returns-2 c = sym (refused-none _ _ (sym (c .before .table-fits .ensures) ∙ no
 first-of-requires : tie.Need-first-of-requires
 first-of-requires c κs =
     let f = table-told _ (sym (c .before .table-fits .ensures) ∙ not-false _ (c .if2 .left)) .columns in
-    (f .measured, f .few)
+    (f .lengths-long, f .few)
 
 returns-3 : tie.Need-returns-3
 unfolding heldIn

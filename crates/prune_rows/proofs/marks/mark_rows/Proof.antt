@@ -5,7 +5,7 @@ use mathlib.Core.Path.{_≡_, refl, sym, ap, ap₂, _∙_, subst}
 use native.Mathlib.Omega.{arith}
 use lib.Dec.{ltb}
 use lib.ListN.{length, length-set}
-use Rattle.tables.specs.Records.{named}
+use Rattle.tables.specs.PruningList.{named}
 use Rattle.prune_rows.specs.Marks.{markBy, owedBy}
 use Rattle.prune_rows.specs.Steps.{Before}
 use Rattle.tables.specs.ListRule.{clean-rule}

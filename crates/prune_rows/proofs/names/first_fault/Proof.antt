@@ -5,7 +5,7 @@ use denote.Ref.{now}
 use mathlib.Core.Path.{_≡_, refl, sym, ap, _∙_}
 use lib.ListN.{length, drop, getD}
 use borrow.Author.Tests.{not-true, not-false}
-use Rattle.tables.specs.Records.{firstFault}
+use Rattle.tables.specs.PruningList.{firstFault}
 use Rattle.prune_rows.proofs.Naming.{fault-here, fault-later, fault-none}
 use borrow.Author.Needs.{needs}
 use Rattle.prune_rows.proofs.names.first_fault.Statement.{statement}

@@ -14,7 +14,7 @@ returns c = simp (sym (c .before .columns-fit .ensures) ∙ not-true _ (c .if1 .
 first-bad-requires : tie.Need-first-bad-requires
 first-bad-requires c κs =
     let f = columns-told _ _ _ (sym (c .before .columns-fit .ensures) ∙ not-false _ (c .if1 .left)) in
-    (f .counted, f .measured)
+    (f .counts-long, f .lengths-long)
 
 returns-2 : tie.Need-returns-2
 unfolding tableFits
@@ -28,7 +28,7 @@ returns-2 c =
 sum-requires : tie.Need-sum-requires
 sum-requires c κs =
     let f = columns-told _ _ _ (sym (c .before .before .before .columns-fit .ensures) ∙ not-false _ (c .before .before .if1 .left)) in
-    omega (arith, f .few, f .measured)
+    omega (arith, f .few, f .lengths-long)
 
 returns-3 : tie.Need-returns-3
 unfolding tableFits

@@ -9,7 +9,7 @@ use lib.Seq.{length-take-le}
 use Rattle.trees.specs.Rows.{Entry}
 use Rattle.tables.specs.Tables.{table, entryOf, entries, rowFits, firstBad, sum}
 use Rattle.codec.specs.TableLaws.{row-cases, form-cons}
-use Rattle.unpack.specs.Columns.{typeCell, countCell, lengthCell, valueCell, valuesOf}
+use Rattle.tables.specs.Cells.{typeCell, countCell, lengthCell, valueCell, valuesOf}
 use Rattle.unpack.specs.Unpack.{tableOf}
 
 none : (v : List ℕ) → length v ≡ 0 → v ≡ []

@@ -1,4 +1,4 @@
--- Entries as the columns of a table.
+-- An entry as the cells of a row.
 use Prim.Native.Nat.{ℕ}
 use mathlib.Core.List.{List, [], _∷_, _++_}
 use lib.ListN.{length}

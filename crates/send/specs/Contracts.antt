@@ -1,0 +1,33 @@
+-- What sending asks and gives.
+use Prim.Native.Nat.{ℕ, _≤_}
+use mathlib.Core.List.{List}
+use mathlib.Core.Path.{_≡_}
+use lib.ListN.{length}
+use Rattle.trees.specs.Nodes.{Node, label}
+use Rattle.trees.specs.Rules.{labelBytes}
+use Rattle.tables.specs.Records.{TreeTable}
+use Rattle.tables.specs.Tables.{Columns, firstBad, sum}
+use Rattle.slips.specs.declared.answer.Answer.{Answer}
+use Rattle.slips.specs.Output.{Packs}
+use Rattle.send.specs.Sent.{sentTree}
+
+-- a table of the form, whose area may be longer than the sum of lengths
+pub record Sendable (types counts lengths values : List ℕ) : Type 0 where
+  pub columns : Columns types counts lengths
+  pub form : firstBad 0 types counts lengths ≡ length types
+  pub filled : sum lengths ≤ length values
+
+-- the table of some tree
+pub record SendTreeAsks (types counts lengths values : List ℕ) : Type 0 where
+  pub tree : Node
+  pub table : TreeTable tree types counts lengths values
+
+-- for every label function of 32 bytes and every tree with this table and this root label, that tree's slip
+abbrev pub SendTreeGives : List ℕ → List ℕ → List ℕ → List ℕ → List ℕ → List ℕ → Answer → List ℕ → Type 0
+SendTreeGives types counts lengths values l out r left =
+    (H : List ℕ → List ℕ)
+    → ((x : List ℕ) → length (H x) ≡ labelBytes)
+    → (n : Node)
+    → TreeTable n types counts lengths values
+    → l ≡ label H n
+    → Packs (sentTree H n out) r left
