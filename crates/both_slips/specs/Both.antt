@@ -3,7 +3,7 @@ use Prim.Native.Nat.{ℕ}
 use mathlib.Core.Bool.{Bool, not}
 use mathlib.Core.List.{List, [], _∷_}
 use lib.Dec.{eqb}
-use Rattle.refusals.specs.Chain.{chain}
+use Rattle.outcomes.specs.Chain.{chain}
 use Rattle.lists.specs.Lists.{same}
 use Rattle.tables.specs.Refusals.{accepted, rootsDiffer}
 use Rattle.slips.specs.declared.answer.Answer.{Answer}

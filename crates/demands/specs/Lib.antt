@@ -4,6 +4,7 @@ pub mod InOrderLaws
 pub mod Refusals
 pub mod Demand1
 pub mod TitleRefusals
+pub mod TitleOrder
 pub mod Demand2
 pub mod Sixteen
 pub mod Library

@@ -1,134 +1,49 @@
--- Demand 1 of the composer: each answer is the first of its refusals that is given, and a refused call leaves the buffer.
-use Prim.Native.Nat.{ℕ, _+_, _<_}
-use mathlib.Core.Bool.{Bool, true, false, not, cond, true≢false, false≢true}
-use mathlib.Core.List.{List, [], _∷_, _++_}
-use mathlib.Core.Logic.{inl, inr}
+-- Demand 1 of the composer: each refusal is 17, 18 to 20 or 11, has its place, and leaves the buffer as it was.
+use Prim.Native.Nat.{ℕ}
+use mathlib.Core.Bool.{Bool, true, false, _||_, false≢true}
+use mathlib.Core.List.{List}
 use mathlib.Core.Path.{_≡_, refl, sym, _∙_}
-use native.Mathlib.Omega.{arith}
-use borrow.Author.Tests.{eqb-true, eqb-false, ltb-true, ltb-false}
-use lib.Dec.{ltb, eqb}
-use lib.ListN.{length}
-use Rattle.lists.specs.Lists.{all}
-use Rattle.lists.specs.ListsLaws.{all-append}
-use Rattle.titles.specs.Refusals.{accepted, outputShort, titleLong, notUtf8, outsideRepertoire, looseMark, maxBytes}
-use Rattle.unicode.specs.Utf8.{ill, width, decode}
-use Rattle.unicode.specs.Repertoire.{isMark}
-use Rattle.unicode.specs.Joining.{Piece, bad, one, two, joined, pieces, noneBad, accepts}
-use Rattle.titles.specs.Compose.{text, fault, refusal, judged, Outcome, refusedWith, acceptedWith, outcome}
-use Rattle.titles.specs.Outcomes.{judged-accepts}
+use lib.Dec.{eqb}
+use Rattle.titles.specs.Refusals.{accepted, outputShort, titleLong, notUtf8, outsideRepertoire, looseMark}
+use Rattle.titles.specs.Compose.{Outcome, outcome}
+use Rattle.titles.specs.Goes.{Wrong, broken, foreign, loose, FirstBad, Goes, long, wrong, short, taken}
+use Rattle.titles.specs.GoesLaws.{compose-goes}
 use Rattle.titles.specs.declared.Composed.{Composed}
-use Rattle.demands.specs.InOrder.{Case, at, plain, among, InOrder}
-use Rattle.demands.specs.InOrderLaws.{free, onto}
 
--- "A refusal returns its number and place, with length .. zero"
-abbrev pub says : Case → ℕ → ℕ → Composed
-says c i j = refusal (c .number) i
+-- told of a character
+abbrev pub ofCharacter : ℕ → Bool
+ofCharacter k = eqb k notUtf8 || eqb k outsideRepertoire || eqb k looseMark
 
--- "the first bad character, 18 before 19 before 20 there", of pieces that start at byte p; what is bad is no plain character
-abbrev pub characterCases : ℕ → List Piece → List Case
-characterCases p [] = []
-characterCases p (bad c ∷ ps) =
-    at notUtf8 p (c ≡ ill) ∷ at outsideRepertoire p (isMark c ≡ false) ∷ at looseMark p (isMark c ≡ true) ∷ []
-characterCases p (one c ∷ ps) = characterCases (p + width c) ps
-characterCases p (two l m ∷ ps) = characterCases (p + (width l + width m)) ps
+-- told of the whole title: "otherwise 0"
+abbrev pub ofTitle : ℕ → Bool
+ofTitle k = eqb k titleLong || eqb k outputShort
 
--- "Composer: 17, then the first bad character, 18 before 19 before 20 there, then 11."
-abbrev pub composeCases : List ℕ → ℕ → List Case
-composeCases title room =
-    plain titleLong (maxBytes < length title)
-    ∷ (characterCases 0 (pieces (decode title)) ++ (plain outputShort (room < length (text title)) ∷ []))
+-- a refusal of the composer as the table has it: "the first byte of the character for 18 to 20 .. otherwise 0"
+pub record Stated (title : List ℕ) (a : Composed) : Type 0 where
+  pub number : (ofTitle (a .number) || ofCharacter (a .number)) ≡ true
+  pub place : ofTitle (a .number) ≡ true → a .place ≡ 0
+  pub character : ofCharacter (a .number) ≡ true → FirstBad title (a .number) (a .place)
+  pub length : a .length ≡ 0
 
-abbrev pub composeNumbers : List ℕ
-composeNumbers = titleLong ∷ notUtf8 ∷ outsideRepertoire ∷ looseMark ∷ outputShort ∷ []
+told : {k : ℕ} {s : List ℕ} → Wrong k s → ((ofTitle k || ofCharacter k) ≡ true) × (ofTitle k ≡ false)
+told (broken f) = (refl, refl)
+told (foreign c r h e o) = (refl, refl)
+told (loose c r h m) = (refl, refl)
 
--- an answer of the composer, and what the buffer holds
-pub record Stated (title out : List ℕ) (o : Outcome) : Type 0 where
-  pub order : InOrder says (composeCases title (length out)) (o .answer .number ≡ accepted) (o .answer)
-  pub listed : all (λ (c : Case). among composeNumbers (c .number)) (composeCases title (length out)) ≡ true
-  pub kept : (o .answer .number ≡ accepted → ⊥) → o .bytes ≡ out
+stated : {title out : List ℕ} {o : Outcome} → Goes title out o → (o .answer .number ≡ accepted → ⊥) → Stated title (o .answer) × (o .bytes ≡ out)
+stated (long p) h = (record { number = refl; place = λ d. refl; character = λ d. absurd (false≢true d); length = refl }, refl)
+stated (wrong u k p b) h = (
+  record {
+    number = told (b .wrong) .0;
+    place = λ d. absurd (false≢true (sym (told (b .wrong) .1) ∙ d));
+    character = λ d. b;
+    length = refl;
+  },
+  refl,
+)
+stated (short u a s) h = (record { number = refl; place = λ d. refl; character = λ d. absurd (false≢true d); length = refl }, refl)
+stated (taken u a r) h = absurd (h refl)
 
-judged-order : (p n : ℕ) (ps : List Piece) → InOrder says (characterCases p ps) (judged p n ps .number ≡ accepted) (judged p n ps)
-unfolding judged fault
-judged-order p n [] = refl
-judged-order p n (bad c ∷ ps) = go (eqb c ill) (isMark c) refl refl
-  where
-    go : (x y : Bool) → eqb c ill ≡ x → isMark c ≡ y
-        → InOrder says (characterCases p (bad c ∷ ps)) (cond x notUtf8 (cond y looseMark outsideRepertoire) ≡ accepted) (refusal (cond x notUtf8 (cond y looseMark outsideRepertoire)) p)
-    go true y e d = inl (p, 0, (refl, refl, eqb-true c ill e), refl)
-    go false false e d = inr (free (eqb-false c ill e), inl (p, 0, (refl, refl, d), refl))
-    go false true e d =
-        inr (free (eqb-false c ill e), inr (free (λ h. true≢false (sym d ∙ h)), inl (p, 0, (refl, refl, d), refl)))
-judged-order p n (one c ∷ ps) = judged-order (p + width c) (n + width c) ps
-judged-order p n (two l m ∷ ps) = judged-order (p + (width l + width m)) (n + width (joined l m)) ps
-
--- where no character is bad, none of theirs is given
-none-bad : (R : Type 0) (a : Composed) (ds : List Case) (p : ℕ) (ps : List Piece) → noneBad ps ≡ true → InOrder says ds R a
-    → InOrder says (characterCases p ps ++ ds) R a
-unfolding noneBad
-none-bad R a ds p [] e x = x
-none-bad R a ds p (bad c ∷ ps) e x = absurd (false≢true e)
-none-bad R a ds p (one c ∷ ps) e x = none-bad R a ds (p + width c) ps e x
-none-bad R a ds p (two l m ∷ ps) e x = none-bad R a ds (p + (width l + width m)) ps e x
-
-characters-listed : (p : ℕ) (ps : List Piece) → all (λ (c : Case). among composeNumbers (c .number)) (characterCases p ps) ≡ true
-characters-listed p [] = refl
-characters-listed p (bad c ∷ ps) = refl
-characters-listed p (one c ∷ ps) = characters-listed (p + width c) ps
-characters-listed p (two l m ∷ ps) = characters-listed (p + (width l + width m)) ps
-
-all-listed : (title : List ℕ) (room : ℕ) → all (λ (c : Case). among composeNumbers (c .number)) (composeCases title room) ≡ true
-all-listed title room =
-    all-append (λ (c : Case). among composeNumbers (c .number)) (characterCases 0 (pieces (decode title))) _
-    (characters-listed 0 (pieces (decode title))) refl
-
-abbrev outcomeBy : Bool → Bool → Bool → List ℕ → List ℕ → Outcome
-outcomeBy long good roomless title out =
-    cond long (refusedWith (refusal titleLong 0) out)
-    (cond (not good) (refusedWith (judged 0 0 (pieces (decode title))) out)
-    (cond roomless (refusedWith (refusal outputShort 0) out) (acceptedWith (text title) out)))
-
-by-tests : (title out : List ℕ) (long good roomless : Bool) → ltb maxBytes (length title) ≡ long → accepts (decode title) ≡ good
-    → ltb (length out) (length (text title)) ≡ roomless → Stated title out (outcomeBy long good roomless title out)
-unfolding accepts
-by-tests title out true good roomless e g r =
-    record {
-      order = inl (0, 0, (refl, refl, ltb-true maxBytes (length title) e), refl);
-      listed = all-listed title (length out);
-      kept = λ h. refl;
-    }
-by-tests title out false false roomless e g r =
-    record {
-      order =
-          inr (
-            free (λ h. omega (arith, h, ltb-false maxBytes (length title) e)),
-            onto says _ _ _ (characterCases 0 (pieces (decode title))) _ (λ a. absurd (false≢true (sym g ∙ judged-accepts title a)))
-                (judged-order 0 0 (pieces (decode title))),
-          );
-      listed = all-listed title (length out);
-      kept = λ h. refl;
-    }
-by-tests title out false true true e g r =
-    record {
-      order =
-          inr (
-            free (λ h. omega (arith, h, ltb-false maxBytes (length title) e)),
-            none-bad _ _ _ 0 (pieces (decode title)) g (inl (0, 0, (refl, refl, ltb-true (length out) (length (text title)) r), refl)),
-          );
-      listed = all-listed title (length out);
-      kept = λ h. refl;
-    }
-by-tests title out false true false e g r =
-    record {
-      order =
-          inr (
-            free (λ h. omega (arith, h, ltb-false maxBytes (length title) e)),
-            none-bad _ _ _ 0 (pieces (decode title)) g
-                (inr (free (λ h. omega (arith, h, ltb-false (length out) (length (text title)) r)), refl)),
-          );
-      listed = all-listed title (length out);
-      kept = λ h. absurd (h refl);
-    }
-
-pub compose-stated : (title out : List ℕ) → Stated title out (outcome title out)
-unfolding outcome
-compose-stated title out = by-tests title out _ _ _ refl refl refl
+pub compose-stated : (title out : List ℕ) → (outcome title out .answer .number ≡ accepted → ⊥)
+    → Stated title (outcome title out .answer) × (outcome title out .bytes ≡ out)
+compose-stated title out h = stated (compose-goes title out) h

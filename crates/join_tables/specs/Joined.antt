@@ -5,7 +5,7 @@ use mathlib.Core.Bool.{Bool, _||_}
 use mathlib.Core.List.{List, [], _∷_}
 use lib.Dec.{ltb}
 use lib.ListN.{length}
-use Rattle.refusals.specs.Chain.{chain}
+use Rattle.outcomes.specs.Chain.{chain}
 use Rattle.trees.specs.Nodes.{Node, size}
 use Rattle.trees.specs.Rules.{maxNodes, maxBytes, clashing}
 use Rattle.trees.specs.Join.{Joint, ok, clash}

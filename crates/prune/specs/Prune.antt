@@ -3,7 +3,7 @@ use Prim.Native.Nat.{ℕ}
 use mathlib.Core.Bool.{Bool, not}
 use mathlib.Core.List.{List, [], _∷_, map}
 use lib.Dec.{eqb}
-use Rattle.refusals.specs.Chain.{chain}
+use Rattle.outcomes.specs.Chain.{chain}
 use Rattle.tables.specs.Refusals.{accepted}
 use Rattle.tables.specs.Cells.{countCell}
 use Rattle.slips.specs.declared.answer.Answer.{Answer}

@@ -4,7 +4,7 @@ use mathlib.Core.Bool.{Bool}
 use mathlib.Core.List.{List, [], _∷_}
 use lib.Dec.{ltb}
 use lib.ListN.{length}
-use Rattle.refusals.specs.Chain.{chain}
+use Rattle.outcomes.specs.Chain.{chain}
 use Rattle.trees.specs.Nodes.{Node}
 use Rattle.tables.specs.Refusals.{badList}
 use Rattle.tables.specs.PruningList.{firstFault, pruned}

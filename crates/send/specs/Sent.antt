@@ -4,7 +4,7 @@ use mathlib.Core.Bool.{Bool}
 use mathlib.Core.List.{List, [], _∷_}
 use lib.Dec.{ltb}
 use lib.ListN.{length}
-use Rattle.refusals.specs.Chain.{chain}
+use Rattle.outcomes.specs.Chain.{chain}
 use Rattle.trees.specs.Nodes.{Node, label, blocks}
 use Rattle.trees.specs.Rows.{Entry, rows}
 use Rattle.tables.specs.Refusals.{noRoom}

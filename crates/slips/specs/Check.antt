@@ -4,7 +4,7 @@ use mathlib.Core.Bool.{Bool, not, _&&_}
 use mathlib.Core.List.{List, [], _∷_}
 use lib.Dec.{ltb, eqb}
 use lib.ListN.{length, take, drop}
-use Rattle.refusals.specs.Chain.{chain}
+use Rattle.outcomes.specs.Chain.{chain}
 use Rattle.bits.specs.Bits.{bitsOf, numOf}
 use Rattle.trees.specs.Rules.{maxBytes}
 use Rattle.trees.specs.Rows.{Tag, Verdict, faulty, left, verdict}

@@ -6,7 +6,7 @@ use mathlib.Core.List.{List, [], _∷_}
 use mathlib.Core.Path.{_≡_, refl, ap, _∙_}
 use native.Mathlib.Omega.{arith}
 use lib.ListN.{length, drop}
-use Rattle.refusals.specs.Chain.{chain}
+use Rattle.outcomes.specs.Chain.{chain}
 use Rattle.bits.specs.Bits.{bitsOf}
 use Rattle.trees.specs.Rows.{Entry, Tag, Step, fault, next, Verdict, faulty, left, stepOf, onward, judged, verdict}
 use Rattle.tables.specs.Refusals.{cutShort}

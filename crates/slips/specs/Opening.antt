@@ -5,7 +5,7 @@ use mathlib.Core.List.{List, _∷_}
 use mathlib.Core.Path.{_≡_}
 use lib.Dec.{eqb}
 use lib.ListN.{length, take}
-use Rattle.refusals.specs.Chain.{chain}
+use Rattle.outcomes.specs.Chain.{chain}
 use Rattle.trees.specs.Rules.{maxNodes, maxBytes, labelBytes}
 use Rattle.tables.specs.Refusals.{accepted, cutShort}
 use Rattle.tables.specs.Tables.{entries, firstBad, sum}

@@ -5,6 +5,7 @@ use mathlib.Core.Bool.{Bool, cond, not}
 use mathlib.Core.List.{List, [], _∷_, _++_}
 use lib.Dec.{ltb, eqb}
 use lib.ListN.{length, drop}
+use Rattle.outcomes.specs.Chain.{chain}
 use Rattle.titles.specs.Refusals.{accepted, outputShort, titleLong, notUtf8, outsideRepertoire, looseMark, maxBytes}
 use Rattle.unicode.specs.Utf8.{ill, width, encodes, decode}
 use Rattle.unicode.specs.Repertoire.{isMark, allPlain}
@@ -47,12 +48,15 @@ abbrev pub acceptedWith : List ℕ → List ℕ → Outcome
 acceptedWith t out = record { answer = acceptance (length t); bytes = t ++ drop (length t) out }
 
 -- 'Composer: 17, then the first bad character, 18 before 19 before 20 there, then 11.'
+abbrev pub outcomeTests : List ℕ → List ℕ → List (Bool × Outcome)
+outcomeTests title out =
+    (ltb maxBytes (length title), refusedWith (refusal titleLong 0) out)
+    ∷ (not (accepts (decode title)), refusedWith (judged 0 0 (pieces (decode title))) out)
+    ∷ (ltb (length out) (length (text title)), refusedWith (refusal outputShort 0) out)
+    ∷ []
+
 unfoldable pub outcome : List ℕ → List ℕ → Outcome
-outcome title out =
-    cond (ltb maxBytes (length title)) (refusedWith (refusal titleLong 0) out)
-    (cond (not (accepts (decode title))) (refusedWith (judged 0 0 (pieces (decode title))) out)
-    (cond (ltb (length out) (length (text title))) (refusedWith (refusal outputShort 0) out)
-    (acceptedWith (text title) out)))
+outcome title out = chain (outcomeTests title out) (acceptedWith (text title) out)
 
 -- what a call says and leaves: the outcome's answer, the outcome's bytes
 pub record Met (title out : List ℕ) (r : Composed) (left : List ℕ) : Type 0 where

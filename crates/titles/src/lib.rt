@@ -23,21 +23,21 @@ impl Title {
     pub const MAX_BYTES: usize = 511;
 }
 
-// The refusal numbers of a title.
+// The refusal numbers of a title, as wide as its answer has them.
 pub struct Refusal {}
 
 impl Refusal {
-    pub const NONE: u32 = 0;
+    pub const NONE: u32 = outcomes::Refusal::ACCEPTED as u32;
 
-    pub const OUTPUT_SHORT: u32 = 11;
+    pub const OUTPUT_SHORT: u32 = outcomes::Refusal::NO_ROOM as u32;
 
-    pub const TITLE_LONG: u32 = 17;
+    pub const TITLE_LONG: u32 = outcomes::Refusal::TITLE_LONG as u32;
 
-    pub const NOT_UTF8: u32 = 18;
+    pub const NOT_UTF8: u32 = outcomes::Refusal::NOT_UTF8 as u32;
 
-    pub const OUTSIDE_REPERTOIRE: u32 = 19;
+    pub const OUTSIDE_REPERTOIRE: u32 = outcomes::Refusal::OUTSIDE_REPERTOIRE as u32;
 
-    pub const LOOSE_MARK: u32 = 20;
+    pub const LOOSE_MARK: u32 = outcomes::Refusal::LOOSE_MARK as u32;
 }
 
 // Composes `title` into `out`. The text is made in a local buffer first: a refusal writes nothing.

@@ -6,6 +6,8 @@ use Prim.Native.Nat.{ℕ, zero, suc, _≤_}
 use lib.Dec.{leb, eqb}
 use lib.ListN.{length}
 use Rattle.lists.specs.Lists.{all}
+-- the refusals that a tree or its rows can meet
+pub use Rattle.outcomes.specs.Refusals.{childrenMissing, tooHigh, saltBroken, notComposed, clashing}
 use Rattle.trees.specs.Nodes.{Node, Run, inner, leaf, nil, cons, typeOf, height, Head, heads}
 
 -- "A node has a type from 0 to 1,023."
@@ -51,27 +53,6 @@ maxNodes = 1023
 -- "A slip has at most 32,768 bytes."
 abbrev pub maxBytes : ℕ
 maxBytes = 32768
-
--- The refusals that a tree or its rows can meet, by their numbers in document 01:
--- "more children named than entries waiting"
-abbrev pub childrenMissing : ℕ
-childrenMissing = 5
-
--- "height over 16"
-abbrev pub tooHigh : ℕ
-tooHigh = 6
-
--- "salt rule broken"
-abbrev pub saltBroken : ℕ
-saltBroken = 7
-
--- "text value not composed"
-abbrev pub notComposed : ℕ
-notComposed = 8
-
--- "clash"
-abbrev pub clashing : ℕ
-clashing = 14
 
 -- a child of type 1
 abbrev pub isSalt : Head → Bool

@@ -5,7 +5,7 @@ use mathlib.Core.List.{List, [], _∷_, map}
 use mathlib.Core.Path.{_≡_}
 use lib.Dec.{ltb, eqb}
 use lib.ListN.{length, take}
-use Rattle.refusals.specs.Chain.{chain}
+use Rattle.outcomes.specs.Chain.{chain}
 use Rattle.trees.specs.Rows.{Entry}
 use Rattle.tables.specs.Refusals.{accepted, noRoom}
 use Rattle.tables.specs.Tables.{Table, sum}

@@ -1,2 +1,0 @@
--- Outcomes by tests in order.
-pub mod Chain
