@@ -72,9 +72,9 @@ struct liwharoko_answer {
 
 /* What the composer answers. */
 struct liwharoko_composed {
-    uint32_t number; /* 0, 11 or 17 to 20 */
-    size_t place;    /* the first byte of the bad character for 18 to 20, else 0 */
-    size_t length;   /* bytes written, or 0 */
+    size_t number; /* 0, 11 or 17 to 20 */
+    size_t place;  /* the first byte of the bad character for 18 to 20, else 0 */
+    size_t length; /* bytes written, or 0 */
 };
 
 /* What the lookup finds: a part of one of the two records' values areas. */

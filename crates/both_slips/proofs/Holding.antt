@@ -9,7 +9,7 @@ use lib.Seq.{length-take-le, take-take, drop-at, take-at, drop-length}
 use Rattle.lists.specs.PartsLaws.{drop-take}
 use Rattle.trees.specs.Nodes.{Node, label}
 use Rattle.trees.specs.Rules.{labelBytes}
-use Rattle.tables.specs.Refusals.{accepted}
+use Rattle.outcomes.specs.Refusals.{accepted}
 use Rattle.tables.specs.Records.{Holds}
 use Rattle.tables.specs.Tables.{entries, sum}
 use Rattle.sha2.specs.Sha256 as Sha256

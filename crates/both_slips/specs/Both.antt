@@ -5,7 +5,7 @@ use mathlib.Core.List.{List, [], _∷_}
 use lib.Dec.{eqb}
 use Rattle.outcomes.specs.Chain.{chain}
 use Rattle.lists.specs.Lists.{same}
-use Rattle.tables.specs.Refusals.{accepted, rootsDiffer}
+use Rattle.outcomes.specs.Refusals.{accepted, rootsDiffer}
 use Rattle.slips.specs.declared.answer.Answer.{Answer}
 use Rattle.slips.specs.Answers.{refused}
 

@@ -5,7 +5,7 @@ use native.Mathlib.Omega.{arith}
 use borrow.Author.Tests.{eq-eqb, ne-eqb, eqb-true, eqb-false, not-true, not-false}
 use lib.Dec.{eqb}
 use Rattle.lists.specs.Lists.{same}
-use Rattle.tables.specs.Refusals.{accepted, rootsDiffer}
+use Rattle.outcomes.specs.Refusals.{accepted, rootsDiffer}
 use Rattle.slips.specs.declared.answer.Answer.{Answer}
 use Rattle.slips.specs.Answers.{refused}
 use Rattle.both_slips.specs.Both.{sided, bothOf}

@@ -6,7 +6,7 @@ use lib.ListN.{length, take, drop}
 use Rattle.trees.specs.Nodes.{label}
 use Rattle.trees.specs.Rules.{labelBytes, maxNodes, maxBytes}
 use Rattle.trees.specs.Join.{Alike}
-use Rattle.tables.specs.Refusals.{accepted}
+use Rattle.outcomes.specs.Refusals.{accepted}
 use Rattle.sha2.specs.Sha256 as Sha256
 use Rattle.titles.specs.Compose.{composedText}
 use Rattle.join_rows.specs.Plans.{Two}

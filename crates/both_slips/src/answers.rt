@@ -1,8 +1,8 @@
 // The answers to two slips before they are joined.
 use columns::heads::same;
+use outcomes::Refusal;
 use slips::answer;
 use slips::answer::Answer;
-use tables::refusals::Refusal;
 ghost use mathlib.Core.Path.{_≡_};
 ghost use Rattle.both_slips.specs.Both as Both;
 ghost use Rattle.both_slips.specs.Both.{bothOf};

@@ -2,8 +2,8 @@
 use crate::refusals;
 use libc::STDOUT_FILENO;
 use lines::page;
+use outcomes::Refusal;
 use table_text::faults;
-use tables::refusals::Refusal;
 
 pub fn help() {
     print(

@@ -1,9 +1,9 @@
 // What is told of a check: the words of document 01's refusal table, and what stands at the place of a refusal.
 use crate::messages;
 use lines::page;
+use outcomes::Refusal;
 use table_text::words;
 use tables::limits::Slip;
-use tables::refusals::Refusal;
 
 // The rest of a file's line in `desk check`.
 pub fn accepted(

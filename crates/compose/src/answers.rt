@@ -2,8 +2,8 @@
 use crate::words;
 use lines::page;
 use lines::parts;
+use outcomes::Refusal;
 use titles::Composed;
-use titles::Refusal;
 use titles::Title;
 ghost use Prim.Native.Nat.{_+_, _≤_};
 ghost use lib.ListN.{length};
@@ -34,7 +34,7 @@ fn named(title: &[u8], text: &mut [u8; page::BYTES], at: usize) -> usize {
         return page::BROKEN;
     }
     let r = composed(title, text, from);
-    if r.number != Refusal::NONE {
+    if r.number != Refusal::ACCEPTED {
         return refused(text, from, r);
     }
     ended(text, from + WORD, r.length)
@@ -55,7 +55,7 @@ fn alone(title: &[u8], line: usize, text: &mut [u8; page::BYTES], at: usize) -> 
         return page::BROKEN;
     }
     let r = bare(title, text, to);
-    if r.number != Refusal::NONE {
+    if r.number != Refusal::ACCEPTED {
         return told(text, to, line, title, r);
     }
     ended(text, to, r.length)
@@ -89,7 +89,7 @@ fn told(
 
 fn refused(text: &mut [u8; page::BYTES], from: usize, r: Composed) -> usize {
     let mut to = page::word(text, from, b"refused ");
-    to = page::decimal(text, to, r.number as usize);
+    to = page::decimal(text, to, r.number);
     to = page::byte(text, to, b' ');
     to = page::decimal(text, to, r.place);
     page::byte(text, to, b'\n')

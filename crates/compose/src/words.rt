@@ -2,8 +2,8 @@
 use characters::utf8;
 use lines::page;
 use lines::parts;
+use outcomes::Refusal;
 use titles::Composed;
-use titles::Refusal;
 use titles::Title;
 ghost use Prim.Native.Nat.{_<_};
 
@@ -22,7 +22,7 @@ fn begun(text: &mut [u8; page::BYTES], line: usize) -> usize {
 }
 
 fn placed(text: &mut [u8; page::BYTES], at: usize, r: Composed) -> usize {
-    let mut to = page::decimal(text, at, r.number as usize);
+    let mut to = page::decimal(text, at, r.number);
     to = page::word(text, to, b" at ");
     to = page::decimal(text, to, r.place);
     page::word(text, to, b": ")

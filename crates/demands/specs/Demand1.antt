@@ -13,13 +13,13 @@ use Rattle.lists.specs.TestsLaws.{and-left, and-right, and-both}
 use Rattle.lists.specs.Lists.{all, same}
 use Rattle.lists.specs.ListsLaws.{all-append, same-true, same-false, cons-head, cons-tail, nil-cons}
 use Rattle.trees.specs.Nodes.{Node, inner, typeOf, height, heads, prelabel, blocksOf, label, blocks}
-use Rattle.trees.specs.Rules.{maxHeight, maxBytes, childrenMissing, tooHigh, saltBroken, notComposed, clashing, salted, textFits}
+use Rattle.trees.specs.Rules.{maxHeight, maxBytes, salted, textFits}
 use Rattle.trees.specs.Places.{Place}
 use Rattle.trees.specs.Join.{Joint, ok, clash, join}
 use Rattle.trees.specs.Rows.{Entry, node, tip, Tag, Step, fault, next, Verdict, faulty, left, tagOf, headOf, highestOf, hashed, stepOf, onward, judged, verdict, rows, number, kids, below, runOf, grow, grown}
 use Rattle.trees.specs.StackLaws.{hashed-tags}
 use Rattle.trees.specs.StackSound.{tags-below, tags-kids}
-use Rattle.tables.specs.Refusals.{accepted, tooLong, cutShort, otherEdition, noNodes, notOneTree, badPadding, noRoom, badList, rootsDiffer, joinTooLarge, badTable}
+use Rattle.outcomes.specs.Refusals.{accepted, tooLong, cutShort, otherEdition, noNodes, notOneTree, badPadding, noRoom, badList, rootsDiffer, joinTooLarge, badTable, childrenMissing, tooHigh, saltBroken, notComposed, clashing}
 use Rattle.tables.specs.PruningList.{firstFault, pruned}
 use Rattle.tables.specs.Tables.{Table, rowFits, firstBad, columnsFit, sum, Columns}
 use Rattle.tables.specs.TablesLaws.{columns-told}

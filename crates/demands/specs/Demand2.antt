@@ -13,13 +13,13 @@ use Rattle.trees.specs.Places.{Place, nodeAt, stays, cut}
 use Rattle.trees.specs.PruneLaws.{cut-stays, cut-named}
 use Rattle.trees.specs.Rows.{rows, number}
 use Rattle.trees.specs.Rules.{WellFormed}
-use Rattle.tables.specs.Refusals.{accepted}
+use Rattle.outcomes.specs.Refusals.{accepted}
 use Rattle.tables.specs.PruningList.{named, pruned}
 use Rattle.tables.specs.Tables.{Table}
 use Rattle.codec.specs.Writing.{slipOf}
 use Rattle.sha2.specs.Sha256 as Sha256
 use Rattle.sha2.specs.Blocks.{Octets, label-long, label-octets}
-use Rattle.titles.specs.Refusals as Titles
+use Rattle.titles.specs.Compose as Titles
 use Rattle.unicode.specs.Utf8.{encodes, decode}
 use Rattle.unicode.specs.Repertoire.{allPlain, allIn}
 use Rattle.unicode.specs.Nfc.{nfc}
@@ -103,7 +103,7 @@ table-labels-told n room w = pack-tree Sha256.label composedText n room w
 
 -- "A title is stored in the composed form of Unicode (NFC) within our repertoire": what is accepted has all its characters in the repertoire,
 -- where `nfc` is Unicode's, and is written in NFC
-pub nfc-stored : (title out : List ℕ) → outcome title out .answer .number ≡ Titles.accepted
+pub nfc-stored : (title out : List ℕ) → outcome title out .answer .number ≡ accepted
     → (allIn (decode title) ≡ true) × (allPlain (nfc (decode title)) ≡ true) × (outcome title out ≡ acceptedWith (encodes (nfc (decode title))) out)
 nfc-stored title out e = accepted-nfc title out e
 
@@ -114,7 +114,7 @@ nfc-accepted title out under known plain room = title-nfc title out under known 
 
 -- so É as one letter and as E and a mark are stored alike
 pub nfc-alike : (x y out : List ℕ) → length x ≤ Titles.maxBytes → length y ≤ Titles.maxBytes → allIn (decode y) ≡ true
-    → nfc (decode x) ≡ nfc (decode y) → outcome x out .answer .number ≡ Titles.accepted → outcome y out ≡ outcome x out
+    → nfc (decode x) ≡ nfc (decode y) → outcome x out .answer .number ≡ accepted → outcome y out ≡ outcome x out
 nfc-alike x y out ux uy known e z = equal-nfc x y out ux uy known e z
 
 -- "A table packed and unpacked is the same table": what the packer writes, unpacked into buffers with room, gives the packer's answer, and

@@ -8,12 +8,11 @@ use mathlib.Core.Path.{_≡_}
 use lib.Dec.{eqb}
 use lib.ListN.{length, take}
 use Rattle.lists.specs.Lists.{Below}
-use Rattle.trees.specs.Rules.{clashing}
 use Rattle.trees.specs.Places.{Place, Fact, tells}
 use Rattle.trees.specs.Join.{Collision}
 use Rattle.trees.specs.Ends.{bare}
 use Rattle.trees.specs.Rows.{rows, number}
-use Rattle.tables.specs.Refusals.{accepted, noRoom, joinTooLarge}
+use Rattle.outcomes.specs.Refusals.{accepted, noRoom, joinTooLarge, clashing}
 use Rattle.codec.specs.Writing.{slipOf}
 use Rattle.slips.specs.Check.{checkOf}
 use Rattle.slips.specs.Output.{Packed}

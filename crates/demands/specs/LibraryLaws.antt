@@ -23,7 +23,7 @@ use Rattle.trees.specs.Demand3.{bare-well-formed}
 use Rattle.trees.specs.Ends.{Reply, passed, took, misfit, shown, isMisfit, isShown, held, settle, bare, Rooted, replyTo, reply, step, run, Got}
 use Rattle.trees.specs.Ends as Ends
 use Rattle.trees.specs.Rows.{tip, rows, number}
-use Rattle.tables.specs.Refusals.{accepted, noRoom, rootsDiffer, joinTooLarge}
+use Rattle.outcomes.specs.Refusals.{accepted, noRoom, rootsDiffer, joinTooLarge}
 use Rattle.codec.specs.Writing.{entryBits, allBits, slipOf}
 use Rattle.codec.specs.MeasureLaws.{dangling-long, slip-bits-long, slip-bytes-long}
 use Rattle.codec.specs.SlipLaws.{below-slipOf}

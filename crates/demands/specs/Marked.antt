@@ -6,10 +6,9 @@ use mathlib.Core.Path.{_≡_, refl}
 use lib.ListN.{length, replicate}
 use Rattle.bits.specs.Bits.{bitsIn, bitsOf, numOf, octets, packed}
 use Rattle.trees.specs.Rows.{node, tip}
-use Rattle.tables.specs.Refusals.{cutShort, otherEdition, noNodes, badPadding}
+use Rattle.outcomes.specs.Refusals.{cutShort, otherEdition, noNodes, badPadding, notUtf8, outsideRepertoire, looseMark}
 use Rattle.codec.specs.Reading.{readValue, readLeaf, readRest, readOne, readAll}
 use Rattle.codec.specs.Writing.{leafBits, entryBits, allBits, slipBits, slipOf}
-use Rattle.titles.specs.Refusals.{notUtf8, outsideRepertoire, looseMark}
 use Rattle.titles.specs.Compose.{outcome, refusal, refusedWith, acceptedWith}
 use Rattle.titles.specs.Cases.{loose, whole, loose-composes, whole-itself, empty-empty, mark-alone, second-mark, cut-short, control}
 use Rattle.slips.specs.Answers.{refused, taken}

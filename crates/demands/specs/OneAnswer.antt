@@ -7,7 +7,7 @@ use denote.Ref.{RefT, ptr, now}
 use Rattle.tables.specs.Tables.{Table}
 use Rattle.sha2.specs.Sha256 as Sha256
 use Rattle.titles.specs.Compose.{composedText, Met}
-use Rattle.titles.specs.declared.Composed.{Composed}
+use Rattle.titles.specs.declared.composed.Composed.{Composed}
 use Rattle.lookup.specs.Lookup.{lookup, Handed}
 use Rattle.slips.specs.declared.answer.Answer.{Answer}
 use Rattle.slips.specs.Check.{checkOf}

@@ -7,12 +7,12 @@ use mathlib.Core.Path.{_≡_}
 use lib.ListN.{length, getD}
 use Rattle.lists.specs.Lists.{all}
 use Rattle.trees.specs.Nodes.{Node, inner, typeOf, height, heads, label}
-use Rattle.trees.specs.Rules.{maxHeight, maxBytes, childrenMissing, tooHigh, saltBroken, notComposed, clashing, salted, textFits}
+use Rattle.trees.specs.Rules.{maxHeight, maxBytes, salted, textFits}
 use Rattle.trees.specs.Places.{Place}
 use Rattle.trees.specs.Join.{ok, clash, join}
 use Rattle.trees.specs.Rows.{Entry, node, tip, rows, number, kids, runOf, grow, grown}
 use Rattle.tables.specs.Limits.{edition}
-use Rattle.tables.specs.Refusals.{accepted, tooLong, cutShort, otherEdition, noNodes, notOneTree, badPadding, noRoom, badList, rootsDiffer, joinTooLarge, badTable}
+use Rattle.outcomes.specs.Refusals.{accepted, tooLong, cutShort, otherEdition, noNodes, notOneTree, badPadding, noRoom, badList, rootsDiffer, joinTooLarge, badTable, childrenMissing, tooHigh, saltBroken, notComposed, clashing}
 use Rattle.tables.specs.Tables.{Table, rowFits, columnsFit, sum}
 use Rattle.codec.specs.Writing.{slipOf}
 use Rattle.engine.specs.Engine.{noLabel}

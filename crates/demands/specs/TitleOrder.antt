@@ -3,7 +3,7 @@
 use Prim.Native.Nat.{ℕ, _+_, _<_}
 use mathlib.Core.Bool.{Bool, true, false, cond, true≢false, false≢true}
 use mathlib.Core.List.{List, [], _∷_, _++_}
-use mathlib.Core.Logic.{_⊎_, inl, inr}
+use mathlib.Core.Logic.{inl, inr}
 use mathlib.Core.Path.{_≡_, refl, sym, _∙_}
 use native.Mathlib.Omega.{arith}
 use borrow.Author.Tests.{eqb-true, eqb-false, ltb-true, ltb-false, not-true, not-false}
@@ -12,13 +12,13 @@ use lib.ListN.{length}
 use Rattle.outcomes.specs.Chain.{chain-each}
 use Rattle.lists.specs.Lists.{all}
 use Rattle.lists.specs.ListsLaws.{all-append}
-use Rattle.titles.specs.Refusals.{accepted, outputShort, titleLong, notUtf8, outsideRepertoire, looseMark, maxBytes}
+use Rattle.outcomes.specs.Refusals.{accepted, noRoom, titleLong, notUtf8, outsideRepertoire, looseMark}
 use Rattle.unicode.specs.Utf8.{ill, width, decode}
 use Rattle.unicode.specs.Repertoire.{isMark}
 use Rattle.unicode.specs.Joining.{Piece, bad, one, two, joined, pieces, noneBad, accepts}
-use Rattle.titles.specs.Compose.{text, fault, refusal, judged, Outcome, acceptedWith, outcomeTests, outcome}
+use Rattle.titles.specs.Compose.{text, fault, refusal, judged, Outcome, acceptedWith, outcomeTests, outcome, maxBytes}
 use Rattle.titles.specs.Outcomes.{judged-accepts}
-use Rattle.titles.specs.declared.Composed.{Composed}
+use Rattle.titles.specs.declared.composed.Composed.{Composed}
 use Rattle.demands.specs.InOrder.{Case, at, plain, Free, among, InOrder}
 use Rattle.demands.specs.InOrderLaws.{free, onto}
 
@@ -38,10 +38,10 @@ characterCases p (two l m ∷ ps) = characterCases (p + (width l + width m)) ps
 abbrev pub composeCases : List ℕ → ℕ → List Case
 composeCases title room =
     plain titleLong (maxBytes < length title)
-    ∷ (characterCases 0 (pieces (decode title)) ++ (plain outputShort (room < length (text title)) ∷ []))
+    ∷ (characterCases 0 (pieces (decode title)) ++ (plain noRoom (room < length (text title)) ∷ []))
 
 abbrev pub composeNumbers : List ℕ
-composeNumbers = titleLong ∷ notUtf8 ∷ outsideRepertoire ∷ looseMark ∷ outputShort ∷ []
+composeNumbers = titleLong ∷ notUtf8 ∷ outsideRepertoire ∷ looseMark ∷ noRoom ∷ []
 
 -- an answer of the composer, and what the buffer holds
 pub record Ordered (title out : List ℕ) (o : Outcome) : Type 0 where

@@ -4,11 +4,11 @@ use mathlib.Core.Bool.{Bool, true, false, _||_, false≢true}
 use mathlib.Core.List.{List}
 use mathlib.Core.Path.{_≡_, refl, sym, _∙_}
 use lib.Dec.{eqb}
-use Rattle.titles.specs.Refusals.{accepted, outputShort, titleLong, notUtf8, outsideRepertoire, looseMark}
+use Rattle.outcomes.specs.Refusals.{accepted, noRoom, titleLong, notUtf8, outsideRepertoire, looseMark}
 use Rattle.titles.specs.Compose.{Outcome, outcome}
 use Rattle.titles.specs.Goes.{Wrong, broken, foreign, loose, FirstBad, Goes, long, wrong, short, taken}
 use Rattle.titles.specs.GoesLaws.{compose-goes}
-use Rattle.titles.specs.declared.Composed.{Composed}
+use Rattle.titles.specs.declared.composed.Composed.{Composed}
 
 -- told of a character
 abbrev pub ofCharacter : ℕ → Bool
@@ -16,7 +16,7 @@ ofCharacter k = eqb k notUtf8 || eqb k outsideRepertoire || eqb k looseMark
 
 -- told of the whole title: "otherwise 0"
 abbrev pub ofTitle : ℕ → Bool
-ofTitle k = eqb k titleLong || eqb k outputShort
+ofTitle k = eqb k titleLong || eqb k noRoom
 
 -- a refusal of the composer as the table has it: "the first byte of the character for 18 to 20 .. otherwise 0"
 pub record Stated (title : List ℕ) (a : Composed) : Type 0 where

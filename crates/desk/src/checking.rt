@@ -4,7 +4,7 @@ use commands::messages;
 use commands::refusals;
 use lines::page;
 use lines::reading::Got;
-use tables::refusals::Refusal;
+use outcomes::Refusal;
 ghost use Prim.Native.Nat.{_≤_};
 
 // How many bytes stand on the page behind a file's line, and how many refusals the line tells: one or none.

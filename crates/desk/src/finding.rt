@@ -6,10 +6,10 @@ use fields::Whole;
 use lines::page;
 use lines::parts;
 use lines::reading::Got;
+use outcomes::Refusal;
 use slips::header;
 use table_text::writing;
 use tables::limits::Slip;
-use tables::refusals::Refusal;
 
 pub fn find(count: usize) {
     if count < 4 {

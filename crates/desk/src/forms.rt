@@ -7,12 +7,12 @@ use commands::messages;
 use lines::page;
 use lines::parts;
 use lines::reading::Got;
+use outcomes::Refusal;
 use slips::header;
 use table_text::reading;
 use table_text::reading::Table;
 use table_text::writing;
 use tables::limits::Slip;
-use tables::refusals::Refusal;
 
 pub fn of_file(command: usize, word: &[u8], count: usize) {
     if count != 3 {

@@ -5,10 +5,10 @@ use commands::files;
 use commands::messages;
 use lines::parts;
 use lines::reading::Got;
+use outcomes::Refusal;
 use slips::answer::Answer;
 use slips::header;
 use tables::limits::Slip;
-use tables::refusals::Refusal;
 
 // Writes out a slip that was made of a file, or says how it was refused.
 pub fn put(name: &[u8], a: Answer, out: &[u8; Slip::MAX_BYTES]) {

@@ -1,5 +1,6 @@
 // desk tree: a slip opened with the label of each row, and drawn.
 use lines::page;
+use outcomes::Refusal;
 use slips::answer;
 use slips::answer::Answer;
 use slips::header;
@@ -7,7 +8,6 @@ use slips::open;
 use table_text::drawing;
 use tables::areas::Full;
 use tables::limits::Slip;
-use tables::refusals::Refusal;
 ghost use mathlib.Core.Path.{_≡_};
 ghost use Rattle.sha2.specs.Sha256 as Sha256;
 ghost use Rattle.titles.specs.Compose.{composedText};

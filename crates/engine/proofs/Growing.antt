@@ -11,7 +11,8 @@ use Rattle.lists.specs.TestsLaws.{and-left, and-right, and-both, or-cases}
 use Rattle.lists.specs.Lists.{all}
 use Rattle.lists.specs.ListsLaws.{all-append, all-take, all-drop}
 use Rattle.trees.specs.Nodes.{piece}
-use Rattle.trees.specs.Rules.{labelBytes, saltType, saltBytes, maxValue, maxType, maxChildren, maxHeight, notComposed, saltFirst, saltLong, saltThere, salted, leafFits, textFits}
+use Rattle.outcomes.specs.Refusals.{notComposed}
+use Rattle.trees.specs.Rules.{labelBytes, saltType, saltBytes, maxValue, maxType, maxChildren, maxHeight, saltFirst, saltLong, saltThere, salted, leafFits, textFits}
 use Rattle.trees.specs.Rows.{Entry, node, tip, formed, Tag, headOf, highestOf, kids, below, parent, fault, next, stepOf}
 use Rattle.sha2.specs.Sha256 as Sha256
 use Rattle.sha2.specs.Blocks.{label-long}

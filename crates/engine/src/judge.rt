@@ -1,11 +1,11 @@
 // What is told of a table's rows.
+use outcomes::Refusal;
 use stack::Stack;
 use tables::areas::Full;
 use tables::areas::HEAD;
 use tables::areas::Small;
 use tables::form;
 use tables::limits::Slip;
-use tables::refusals::Refusal;
 ghost use mathlib.Core.Path.{_≡_};
 ghost use mathlib.Core.Bool.{_&&_};
 ghost use mathlib.Core.List.{List, map};

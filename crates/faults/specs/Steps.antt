@@ -7,7 +7,8 @@ use native.Mathlib.Omega.{arith}
 use lib.Dec.{ltb, leb}
 use lib.ListN.{length}
 use borrow.Author.Tests.{lt-ltb, le-ltb, le-leb, lt-leb, ltb-false}
-use Rattle.trees.specs.Rules.{maxHeight, childrenMissing, tooHigh, saltBroken, notComposed, firstText, lastText, salted}
+use Rattle.outcomes.specs.Refusals.{childrenMissing, tooHigh, saltBroken, notComposed}
+use Rattle.trees.specs.Rules.{maxHeight, firstText, lastText, salted}
 use Rattle.trees.specs.Rows.{Entry, node, tip, Tag, headOf, highestOf, Step, fault, next, kids, stepOf}
 use Rattle.tables.specs.Tables.{entryOf}
 use Rattle.faults.specs.Waiting.{faultOf}

@@ -1,7 +1,7 @@
 // Which refusal an entry meets on the stack: 5, 6 and 7 at an internal node, 8 at a leaf.
+use outcomes::Refusal;
 use tables::form;
 use tables::limits::Slip;
-use tables::refusals::Refusal;
 ghost use mathlib.Core.Path.{_≡_};
 ghost use mathlib.Core.List.{List, map};
 ghost use Prim.Native.Nat.{ℕ, _<_};

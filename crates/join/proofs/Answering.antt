@@ -11,7 +11,7 @@ use Rattle.lists.specs.Lists.{same}
 use Rattle.trees.specs.Rules.{maxBytes, maxNodes}
 use Rattle.trees.specs.Join.{join}
 use Rattle.tables.specs.Areas.{smallBytes, smallNodes}
-use Rattle.tables.specs.Refusals.{accepted, rootsDiffer}
+use Rattle.outcomes.specs.Refusals.{accepted, rootsDiffer}
 use Rattle.slips.specs.declared.answer.Answer.{Answer}
 use Rattle.slips.specs.declared.header.Header.{Header}
 use Rattle.slips.specs.Answers.{refused}

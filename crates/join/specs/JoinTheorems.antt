@@ -17,7 +17,7 @@ use Rattle.trees.specs.Join.{Joint, ok, clash, join, Alike, Clash, FirstClash}
 use Rattle.trees.specs.FirstClash.{join-unclashed, clash-first}
 use Rattle.trees.specs.JoinAlgebra.{join-idem, join-comm}
 use Rattle.trees.specs.Rows.{rows, number}
-use Rattle.tables.specs.Refusals.{accepted, rootsDiffer, joinTooLarge}
+use Rattle.outcomes.specs.Refusals.{accepted, rootsDiffer, joinTooLarge}
 use Rattle.codec.specs.Writing.{slipOf}
 use Rattle.slips.specs.Answers.{refused}
 use Rattle.slips.specs.Check.{checkOf}

@@ -2,12 +2,12 @@
 use both_slips::answers::sided;
 use join_tables::areas::FullPair;
 use join_tables::areas::SmallPair;
+use outcomes::Refusal;
 use slips::answer;
 use slips::answer::Answer;
 use slips::check;
 use slips::header;
 use tables::areas::Small;
-use tables::refusals::Refusal;
 ghost use mathlib.Core.Path.{_≡_};
 ghost use mathlib.Core.Bool.{_&&_};
 ghost use Prim.Native.Nat.{_*_, _≤_};

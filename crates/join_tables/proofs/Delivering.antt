@@ -8,7 +8,7 @@ use Rattle.trees.specs.Nodes.{Node}
 use Rattle.trees.specs.Rules.{maxBytes}
 use Rattle.trees.specs.Rows.{rows}
 use Rattle.tables.specs.Records.{TreeTable}
-use Rattle.tables.specs.Refusals.{joinTooLarge}
+use Rattle.outcomes.specs.Refusals.{joinTooLarge}
 use Rattle.codec.specs.Writing.{slipOf}
 use Rattle.columns.specs.declared.gather.Gathered.{Gathered}
 use Rattle.columns.specs.Gathers.{cellOf, valuesOf, Gathers}

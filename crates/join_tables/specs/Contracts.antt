@@ -10,7 +10,7 @@ use Rattle.trees.specs.Rules.{maxBytes}
 use Rattle.trees.specs.Join.{Alike, join}
 use Rattle.trees.specs.Rows.{rows}
 use Rattle.tables.specs.Records.{TreeTable}
-use Rattle.tables.specs.Refusals.{joinTooLarge}
+use Rattle.outcomes.specs.Refusals.{joinTooLarge}
 use Rattle.tables.specs.Tables.{sum}
 use Rattle.codec.specs.Writing.{slipOf}
 use Rattle.sha2.specs.Sha256 as Sha256

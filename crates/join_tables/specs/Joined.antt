@@ -7,10 +7,10 @@ use lib.Dec.{ltb}
 use lib.ListN.{length}
 use Rattle.outcomes.specs.Chain.{chain}
 use Rattle.trees.specs.Nodes.{Node, size}
-use Rattle.trees.specs.Rules.{maxNodes, maxBytes, clashing}
+use Rattle.trees.specs.Rules.{maxNodes, maxBytes}
 use Rattle.trees.specs.Join.{Joint, ok, clash}
 use Rattle.trees.specs.Rows.{rows, number}
-use Rattle.tables.specs.Refusals.{joinTooLarge}
+use Rattle.outcomes.specs.Refusals.{joinTooLarge, clashing}
 use Rattle.codec.specs.Writing.{slipOf}
 use Rattle.engine.specs.Engine.{noLabel}
 use Rattle.slips.specs.declared.answer.Answer.{Answer}

@@ -13,7 +13,7 @@ use Rattle.trees.specs.Join.{Joint, ok, clash, join, Alike}
 use Rattle.trees.specs.JoinLaws.{join-ok}
 use Rattle.trees.specs.OrderLaws.{le-label}
 use Rattle.tables.specs.Records.{TreeTable}
-use Rattle.tables.specs.Refusals.{joinTooLarge}
+use Rattle.outcomes.specs.Refusals.{joinTooLarge}
 use Rattle.sha2.specs.Sha256 as Sha256
 use Rattle.join_rows.specs.declared.plan.Planned.{Planned}
 use Rattle.lists.specs.Lists.{Names}

@@ -2,7 +2,7 @@
 use Prim.Native.Nat.{ℕ, _≤_}
 use mathlib.Core.Path.{_≡_}
 use lib.ListN.{length}
-use Rattle.tables.specs.Refusals.{accepted}
+use Rattle.outcomes.specs.Refusals.{accepted}
 use Rattle.tables.specs.Tables.{Table, Formed}
 use Rattle.codec.specs.Writing.{slipOf}
 use Rattle.slips.specs.declared.answer.Answer.{Answer}

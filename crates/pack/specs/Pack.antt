@@ -8,7 +8,7 @@ use lib.ListN.{length}
 use Rattle.outcomes.specs.Chain.{chain}
 use Rattle.trees.specs.Rules.{maxBytes}
 use Rattle.trees.specs.Rows.{Entry, Tag, Verdict, faulty, left, verdict}
-use Rattle.tables.specs.Refusals.{accepted, tooLong, noNodes, notOneTree, noRoom, badTable}
+use Rattle.outcomes.specs.Refusals.{accepted, tooLong, noNodes, notOneTree, noRoom, badTable}
 use Rattle.tables.specs.Tables.{Table, entries, columnsFit, firstBad, rowBad, areaFits}
 use Rattle.codec.specs.Writing.{slipOf}
 use Rattle.engine.specs.Engine.{oneTree, rootLabel}

@@ -10,7 +10,7 @@ use lib.ListN.{length}
 use Rattle.trees.specs.Rules.{maxBytes}
 use Rattle.lists.specs.Lists.{all}
 use Rattle.trees.specs.Rows.{Entry, formed, Tag, Verdict, faulty, left, verdict}
-use Rattle.tables.specs.Refusals.{accepted, tooLong, noNodes, notOneTree, noRoom, badTable}
+use Rattle.outcomes.specs.Refusals.{accepted, tooLong, noNodes, notOneTree, noRoom, badTable}
 use Rattle.tables.specs.Tables.{Table, rowFits, firstBad, columnsFit, rowBad, areaFits, tableFits, sum, Formed}
 use Rattle.tables.specs.TablesLaws.{table-told}
 use Rattle.codec.specs.Writing.{slipOf}

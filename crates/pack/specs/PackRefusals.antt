@@ -7,11 +7,11 @@ use native.Mathlib.Omega.{arith}
 use borrow.Author.Tests.{eq-eqb, le-ltb}
 use lib.ListN.{length}
 use Rattle.lists.specs.Lists.{all}
-use Rattle.trees.specs.Rules.{childrenMissing, notComposed, maxBytes}
+use Rattle.trees.specs.Rules.{maxBytes}
 use Rattle.trees.specs.Rows.{Entry, formed, Verdict, faulty, left, verdict}
 use Rattle.trees.specs.Refused.{Broken, Scattered}
 use Rattle.trees.specs.RefusedLaws.{breaks-number, refused-broken, broken-refused, left-scattered, scattered-left}
-use Rattle.tables.specs.Refusals.{accepted, notOneTree, badTable}
+use Rattle.outcomes.specs.Refusals.{accepted, notOneTree, badTable, childrenMissing, notComposed}
 use Rattle.tables.specs.Tables.{Table, tableFits}
 use Rattle.codec.specs.Writing.{slipOf}
 use Rattle.slips.specs.declared.answer.Answer.{Answer}

@@ -17,7 +17,7 @@ use Rattle.trees.specs.Rows.{Entry, node, tip, formed, rows, Tag, Verdict, faul
 use Rattle.trees.specs.RowsLaws.{length-rows, rows-inj}
 use Rattle.trees.specs.StackLaws.{complete-tree, rows-formed}
 use Rattle.trees.specs.StackSound.{sound-one, built-well-formed}
-use Rattle.tables.specs.Refusals.{accepted, tooLong, noRoom, badTable}
+use Rattle.outcomes.specs.Refusals.{accepted, tooLong, noRoom, badTable}
 use Rattle.tables.specs.Tables.{Table, entryOf, entries, rowFits, firstBad, columnsFit, sum, Formed}
 use Rattle.tables.specs.TablesLaws.{columns-told, length-entries}
 use Rattle.codec.specs.Writing.{slipOf}

@@ -12,7 +12,7 @@ use Rattle.trees.specs.Rules.{maxNodes}
 use Rattle.trees.specs.Rows.{Entry, rows}
 use Rattle.trees.specs.RowsLaws.{length-rows}
 use Rattle.trees.specs.StackLaws.{rows-formed}
-use Rattle.tables.specs.Refusals.{accepted}
+use Rattle.outcomes.specs.Refusals.{accepted}
 use Rattle.tables.specs.Tables.{Table, Formed}
 use Rattle.codec.specs.Writing.{slipOf}
 use Rattle.codec.specs.Proper.{AllProper}

@@ -4,7 +4,7 @@ use mathlib.Core.List.{List}
 use mathlib.Core.Path.{_≡_}
 use lib.ListN.{length}
 use Rattle.trees.specs.Rules.{maxBytes}
-use Rattle.tables.specs.Refusals.{accepted}
+use Rattle.outcomes.specs.Refusals.{accepted}
 use Rattle.slips.specs.Check.{headerOf}
 use Rattle.slips.specs.Opening.{Lent}
 

@@ -5,7 +5,7 @@ use mathlib.Core.List.{List, map}
 use mathlib.Core.Path.{_≡_, refl, sym, ap, _∙_}
 use borrow.Author.Tests.{eq-eqb, ne-eqb}
 use lib.ListN.{take}
-use Rattle.tables.specs.Refusals.{accepted}
+use Rattle.outcomes.specs.Refusals.{accepted}
 use Rattle.tables.specs.Cells.{countCell}
 use Rattle.prune_rows.specs.TableLaws.{entries-counts}
 use Rattle.slips.specs.declared.answer.Answer.{Answer}

@@ -17,7 +17,7 @@ use Rattle.trees.specs.Places.{Place, nodeAt, stays, Le, cut, EqualBut}
 use Rattle.trees.specs.PruneLaws.{cut-le, cut-label, cut-none, cut-agree, stays-above, equal-but-cut}
 use Rattle.trees.specs.Rows.{Entry, node, tip, rows, number}
 use Rattle.trees.specs.NumbersLaws.{number-inj}
-use Rattle.tables.specs.Refusals.{accepted, noRoom, badList}
+use Rattle.outcomes.specs.Refusals.{accepted, noRoom, badList}
 use Rattle.tables.specs.PruningList.{named, firstFault, pruned}
 use Rattle.codec.specs.Writing.{entryBits, allBits, slipOf}
 use Rattle.codec.specs.MeasureLaws.{node-long, dangling-long, pair-long, slip-bits-long, slip-bytes-long}

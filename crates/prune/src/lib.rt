@@ -1,4 +1,5 @@
 // The pruning of a slip.
+use outcomes::Refusal;
 use slips::answer;
 use slips::answer::Answer;
 use slips::header;
@@ -6,13 +7,12 @@ use slips::open;
 use tables::areas::Full;
 use tables::areas::Small;
 use tables::limits::Slip;
-use tables::refusals::Refusal;
 ghost use mathlib.Core.Path.{_≡_};
 ghost use Rattle.sha2.specs.Sha256 as Sha256;
 ghost use Rattle.titles.specs.Compose.{composedText};
 ghost use Rattle.trees.specs.Rules.{maxBytes, maxNodes};
 ghost use Rattle.tables.specs.Areas.{smallBytes, smallNodes};
-ghost use Rattle.tables.specs.Refusals.{accepted};
+ghost use Rattle.outcomes.specs.Refusals.{accepted};
 ghost use Rattle.slips.specs.Check.{headerOf};
 ghost use Rattle.slips.specs.Opening.{Counted};
 ghost use Rattle.slips.specs.Output.{Packs};

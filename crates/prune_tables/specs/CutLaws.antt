@@ -9,7 +9,7 @@ use lib.Seq.{length-take-le}
 use Rattle.trees.specs.Nodes.{Node, label}
 use Rattle.trees.specs.PruneLaws.{cut-label}
 use Rattle.trees.specs.Rows.{number, prunedRows}
-use Rattle.tables.specs.Refusals.{badList}
+use Rattle.outcomes.specs.Refusals.{badList}
 use Rattle.tables.specs.PruningList.{named, firstFault, pruned}
 use Rattle.tables.specs.Records.{TreeTable, Holds}
 use Rattle.tables.specs.ListRule.{fault-within}

@@ -6,7 +6,7 @@ use lib.Dec.{ltb}
 use lib.ListN.{length}
 use Rattle.outcomes.specs.Chain.{chain}
 use Rattle.trees.specs.Nodes.{Node}
-use Rattle.tables.specs.Refusals.{badList}
+use Rattle.outcomes.specs.Refusals.{badList}
 use Rattle.tables.specs.PruningList.{firstFault, pruned}
 use Rattle.slips.specs.Answers.{refused}
 use Rattle.slips.specs.Output.{Packed, still}

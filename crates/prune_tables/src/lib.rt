@@ -1,4 +1,5 @@
 // The pruning of a table: the list's fault, or the pruned tree's slip.
+use outcomes::Refusal;
 use prune_rows::marks;
 use prune_rows::names;
 use slips::answer;
@@ -6,7 +7,6 @@ use slips::answer::Answer;
 use tables::areas::Full;
 use tables::areas::Small;
 use tables::limits::Slip;
-use tables::refusals::Refusal;
 ghost use Prim.Native.Nat.{_≤_};
 ghost use lib.ListN.{length};
 ghost use Rattle.tables.specs.Areas.{smallBytes, smallNodes};

@@ -20,7 +20,7 @@ pub fn compose(
 
 fn composed(title: &[u8], out: &mut [u8], text: &mut [u8; page::BYTES], from: usize) -> usize {
     let a = titles::compose(title, out);
-    let mut at = answer::number(text, from, a.number as usize);
+    let mut at = answer::number(text, from, a.number);
     at = answer::number(text, at, a.place);
     at = page::decimal(text, at, a.length);
     answer::bytes(text, at, out)

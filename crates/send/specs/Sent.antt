@@ -7,7 +7,7 @@ use lib.ListN.{length}
 use Rattle.outcomes.specs.Chain.{chain}
 use Rattle.trees.specs.Nodes.{Node, label, blocks}
 use Rattle.trees.specs.Rows.{Entry, rows}
-use Rattle.tables.specs.Refusals.{noRoom}
+use Rattle.outcomes.specs.Refusals.{noRoom}
 use Rattle.codec.specs.Writing.{slipOf}
 use Rattle.slips.specs.Answers.{refused, taken}
 use Rattle.slips.specs.Output.{over, Packed, still}

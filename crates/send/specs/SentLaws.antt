@@ -7,7 +7,7 @@ use lib.ListN.{length}
 use Rattle.trees.specs.Nodes.{Node, label, blocks}
 use Rattle.trees.specs.Rows.{Entry, rows}
 use Rattle.tables.specs.Records.{TreeTable}
-use Rattle.tables.specs.Refusals.{noRoom}
+use Rattle.outcomes.specs.Refusals.{noRoom}
 use Rattle.codec.specs.Writing.{slipOf}
 use Rattle.slips.specs.declared.answer.Answer.{Answer}
 use Rattle.slips.specs.Answers.{refused, taken}

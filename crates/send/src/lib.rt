@@ -3,10 +3,10 @@ pub mod blocks;
 
 use codec::measure;
 use codec::write;
+use outcomes::Refusal;
 use slips::answer;
 use slips::answer::Answer;
 use tables::limits::Slip;
-use tables::refusals::Refusal;
 ghost use Rattle.tables.specs.Tables.{entries};
 ghost use Rattle.slips.specs.Output.{Packs};
 ghost use Rattle.send.specs.Contracts.{Sendable, SendTreeAsks, SendTreeGives};

@@ -1,10 +1,10 @@
 // What `show` prints of a slip, as document 01 has it. The lines go behind the `from` bytes of a page.
 use lines::page;
 use lines::parts;
+use outcomes::Refusal;
 use slips::answer::Answer;
 use slips::header;
 use tables::limits::Slip;
-use tables::refusals::Refusal;
 
 pub fn slip(text: &mut [u8; page::BYTES], from: usize, slip: &[u8]) -> usize {
     let mut types = [0u16; Slip::MAX_NODES];

@@ -10,7 +10,7 @@ use lib.ListN.{length, take, drop, length-drop}
 use lib.Seq.{take-all}
 use Rattle.bits.specs.Bits.{bitsOf, numOf}
 use Rattle.bits.specs.ByteLaws.{length-bitsOf}
-use Rattle.tables.specs.Refusals.{accepted, cutShort, notOneTree, badPadding}
+use Rattle.outcomes.specs.Refusals.{accepted, cutShort, notOneTree, badPadding}
 use Rattle.engine.specs.declared.judge.Judged.{Judged}
 use Rattle.slips.specs.Answers.{refused, taken}
 use Rattle.slips.specs.Check.{paddingFits}

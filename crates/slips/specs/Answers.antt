@@ -1,7 +1,7 @@
 -- "A refusal returns its number and place, with length, blocks and label all zero, and writes nothing."
 use Prim.Native.Nat.{ℕ}
 use mathlib.Core.List.{List}
-use Rattle.tables.specs.Refusals.{accepted}
+use Rattle.outcomes.specs.Refusals.{accepted}
 use Rattle.engine.specs.Engine.{noLabel}
 use Rattle.slips.specs.declared.answer.Answer.{Answer}
 

@@ -9,7 +9,7 @@ use Rattle.trees.specs.Nodes.{Node, Run, inner, leaf, nil, cons, count, size}
 use Rattle.trees.specs.Rules.{maxNodes, maxBytes, countFits, All, AllIn, NodeRules, LeafRules, WellFormed}
 use Rattle.trees.specs.Rows.{Entry, node, rows, rowsIn}
 use Rattle.trees.specs.StackLaws.{length-heads}
-use Rattle.tables.specs.Refusals.{accepted}
+use Rattle.outcomes.specs.Refusals.{accepted}
 use Rattle.codec.specs.Writing.{slipOf}
 use Rattle.codec.specs.Proper.{AllProper}
 use Rattle.slips.specs.Check.{checkOf}

@@ -6,7 +6,7 @@ use mathlib.Core.Path.{_≡_, refl}
 use lib.ListN.{replicate}
 use Rattle.bits.specs.Bits.{bitsIn, bitsOf, numOf, octets}
 use Rattle.codec.specs.Reading.{readValue, readLeaf, readRest, readOne, readAll}
-use Rattle.tables.specs.Refusals.{cutShort, otherEdition, noNodes, badPadding}
+use Rattle.outcomes.specs.Refusals.{cutShort, otherEdition, noNodes, badPadding}
 use Rattle.slips.specs.Answers.{refused, taken}
 use Rattle.slips.specs.Check.{paddingFits, settled, headerOf, bodyOf, checkOf}
 

@@ -9,7 +9,7 @@ use Rattle.bits.specs.Bits.{bitsOf, numOf}
 use Rattle.trees.specs.Rules.{maxBytes}
 use Rattle.trees.specs.Rows.{Tag, Verdict, faulty, left, verdict}
 use Rattle.tables.specs.Limits.{edition, editionBits, countBits}
-use Rattle.tables.specs.Refusals.{accepted, tooLong, cutShort, otherEdition, noNodes, notOneTree, badPadding}
+use Rattle.outcomes.specs.Refusals.{accepted, tooLong, cutShort, otherEdition, noNodes, notOneTree, badPadding}
 use Rattle.codec.specs.Reading.{Reading, readAll}
 use Rattle.engine.specs.Engine.{oneTree, rootLabel}
 use Rattle.slips.specs.declared.answer.Answer.{Answer}

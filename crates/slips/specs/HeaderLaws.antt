@@ -14,7 +14,7 @@ use Rattle.bits.specs.Bits.{bitsOf}
 use Rattle.bits.specs.FieldLaws.{num-small}
 use Rattle.trees.specs.Rules.{maxBytes, maxNodes}
 use Rattle.tables.specs.Limits.{edition, editionBits, countBits}
-use Rattle.tables.specs.Refusals.{accepted, tooLong, cutShort, otherEdition, noNodes}
+use Rattle.outcomes.specs.Refusals.{accepted, tooLong, cutShort, otherEdition, noNodes}
 use Rattle.slips.specs.Answers.{refused}
 use Rattle.slips.specs.Check.{headerBits, editionOf, countOf, headerTests, headerOf, bodyOf, checkOf}
 use Rattle.slips.specs.Opening.{Counted}

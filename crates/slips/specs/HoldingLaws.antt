@@ -10,7 +10,7 @@ use Rattle.trees.specs.Rules.{labelBytes, maxNodes}
 use Rattle.trees.specs.Rows.{Entry, rows}
 use Rattle.trees.specs.RowsLaws.{length-rows}
 use Rattle.trees.specs.RowLabelsLaws.{length-labels}
-use Rattle.tables.specs.Refusals.{accepted}
+use Rattle.outcomes.specs.Refusals.{accepted}
 use Rattle.tables.specs.Tables.{entryOf, entries, sum}
 use Rattle.engine.specs.Engine.{Labelled}
 use Rattle.sha2.specs.Sha256 as Sha256

@@ -9,7 +9,7 @@ use lib.ListN.{length, drop}
 use Rattle.outcomes.specs.Chain.{chain}
 use Rattle.bits.specs.Bits.{bitsOf}
 use Rattle.trees.specs.Rows.{Entry, Tag, Step, fault, next, Verdict, faulty, left, stepOf, onward, judged, verdict}
-use Rattle.tables.specs.Refusals.{cutShort}
+use Rattle.outcomes.specs.Refusals.{cutShort}
 use Rattle.codec.specs.Reading.{Read, short, got, Reading, after, readOne, readAll}
 use Rattle.engine.specs.Engine.{oneTree, rootLabel}
 use Rattle.slips.specs.declared.answer.Answer.{Answer}

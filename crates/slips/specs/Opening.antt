@@ -7,7 +7,7 @@ use lib.Dec.{eqb}
 use lib.ListN.{length, take}
 use Rattle.outcomes.specs.Chain.{chain}
 use Rattle.trees.specs.Rules.{maxNodes, maxBytes, labelBytes}
-use Rattle.tables.specs.Refusals.{accepted, cutShort}
+use Rattle.outcomes.specs.Refusals.{accepted, cutShort}
 use Rattle.tables.specs.Tables.{entries, firstBad, sum}
 use Rattle.sha2.specs.Sha256 as Sha256
 use Rattle.titles.specs.Compose.{composedText}

@@ -12,12 +12,12 @@ use Rattle.lists.specs.ListsLaws.{below-drop}
 use Rattle.bits.specs.ByteLaws.{below-bitsOf}
 use Rattle.lists.specs.Lists.{all}
 use Rattle.trees.specs.Nodes.{Node, typeOf}
-use Rattle.trees.specs.Rules.{maxBytes, childrenMissing, notComposed}
+use Rattle.trees.specs.Rules.{maxBytes}
 use Rattle.trees.specs.Rows.{formed, Tag, tagOf, Verdict, faulty, left, verdict}
 use Rattle.trees.specs.Refused.{Broken, Scattered}
 use Rattle.trees.specs.RefusedLaws.{breaks-number, refused-broken, broken-refused, left-scattered, scattered-left}
 use Rattle.tables.specs.Limits.{edition}
-use Rattle.tables.specs.Refusals.{accepted, cutShort, noNodes, notOneTree, badPadding}
+use Rattle.outcomes.specs.Refusals.{accepted, cutShort, noNodes, notOneTree, badPadding, childrenMissing, notComposed}
 use Rattle.codec.specs.Reading.{Reading}
 use Rattle.codec.specs.Reader.{headBits}
 use Rattle.codec.specs.RoundTrip.{read-all-was}

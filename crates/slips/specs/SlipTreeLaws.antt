@@ -15,7 +15,7 @@ use Rattle.trees.specs.Rows.{rows, tagOf, left, verdict}
 use Rattle.trees.specs.RowsLaws.{grown-tree}
 use Rattle.trees.specs.StackLaws.{complete-tree}
 use Rattle.trees.specs.StackSound.{sound-one, built-well-formed}
-use Rattle.tables.specs.Refusals.{accepted}
+use Rattle.outcomes.specs.Refusals.{accepted}
 use Rattle.codec.specs.Reading.{Reading}
 use Rattle.codec.specs.Reader.{headBits}
 use Rattle.codec.specs.RoundTrip.{read-all-was}

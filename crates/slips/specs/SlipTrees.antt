@@ -22,7 +22,7 @@ use Rattle.trees.specs.Rows.{Entry, formed, rows, Tag, tagOf, Verdict, faulty, 
 use Rattle.trees.specs.RowsLaws.{length-rows, rows-inj}
 use Rattle.trees.specs.StackLaws.{complete-tree}
 use Rattle.trees.specs.StackSound.{Built, sound-one, built-well-formed}
-use Rattle.tables.specs.Refusals.{accepted}
+use Rattle.outcomes.specs.Refusals.{accepted}
 use Rattle.codec.specs.Writing.{slipOf}
 use Rattle.codec.specs.Reading.{Reading, readAll}
 use Rattle.codec.specs.Reader.{headBits}

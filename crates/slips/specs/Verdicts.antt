@@ -9,7 +9,7 @@ use lib.Dec.{ltb}
 use lib.ListN.{length}
 use Rattle.trees.specs.Rules.{maxHeight, salted, textFits}
 use Rattle.trees.specs.Rows.{Entry, node, tip, Tag, Step, fault, next, Verdict, faulty, left, kids, headOf, highestOf, stepOf, onward, judged, verdict}
-use Rattle.tables.specs.Refusals.{accepted}
+use Rattle.outcomes.specs.Refusals.{accepted}
 use Rattle.codec.specs.Reading.{Reading}
 use Rattle.engine.specs.Engine.{told}
 use Rattle.slips.specs.Check.{settled}

@@ -1,6 +1,6 @@
 // What every call on slips answers.
+use outcomes::Refusal;
 use tables::limits::Slip;
-use tables::refusals::Refusal;
 ghost use mathlib.Core.Path.{_≡_};
 ghost use Rattle.slips.specs.Answers as Answers;
 

@@ -1,7 +1,7 @@
 // The tests that come before the first entry.
 use bits::read;
+use outcomes::Refusal;
 use tables::limits::Slip;
-use tables::refusals::Refusal;
 ghost use mathlib.Core.Path.{_≡_};
 ghost use Rattle.slips.specs.Check.{headerOf};
 

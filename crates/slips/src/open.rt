@@ -6,7 +6,7 @@ use codec::fill;
 use codec::fill::Filled;
 use engine::judge;
 use engine::judge::Judged;
-use tables::refusals::Refusal;
+use outcomes::Refusal;
 ghost use mathlib.Core.Path.{_≡_};
 ghost use Prim.Native.Nat.{_*_, _≤_};
 ghost use lib.ListN.{length, drop};

@@ -2,4 +2,3 @@
 pub mod areas;
 pub mod form;
 pub mod limits;
-pub mod refusals;

@@ -9,11 +9,11 @@ use lib.Seq.{take-all, take-length, length-take-le}
 use native.Mathlib.Omega.{arith}
 use borrow.Author.Tests.{lt-ltb, le-ltb, ltb-true, ltb-false}
 use Rattle.lists.specs.TestsLaws.{either, refuted}
-use Rattle.titles.specs.declared.Composed.{Composed}
-use Rattle.titles.specs.Refusals.{accepted, outputShort, titleLong, maxBytes}
+use Rattle.titles.specs.declared.composed.Composed.{Composed}
+use Rattle.outcomes.specs.Refusals.{accepted, noRoom, titleLong}
 use Rattle.unicode.specs.Utf8.{decode}
 use Rattle.unicode.specs.Joining.{accepts}
-use Rattle.titles.specs.Compose.{text, refusal, acceptance, Outcome, outcome, Met}
+use Rattle.titles.specs.Compose.{text, refusal, acceptance, Outcome, outcome, Met, maxBytes}
 use Rattle.titles.specs.Outcomes.{long, refused, short, taken, judged-accepts, accepts-judged}
 use Rattle.titles.specs.Scan.{Scanned}
 
@@ -67,7 +67,7 @@ module _ (title out buffer : List ℕ) (r : Composed) (scanned : Scanned title r
     pub part-long : r .length ≡ length (take (r .length) buffer)
     part-long = sym (length-take-le (r .length) buffer in-buffer)
 
-    pub met-short : (r′ : Composed) → length out < r .length → r′ ≡ refusal outputShort 0 → Met title out r′ out
+    pub met-short : (r′ : Composed) → length out < r .length → r′ ≡ refusal noRoom 0 → Met title out r′ out
     met-short r′ less e =
         met title out out r′ _
         (short title out (le-ltb maxBytes (length title) under) all (lt-ltb (length out) (length (text title)) (rw size at less)))

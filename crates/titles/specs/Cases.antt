@@ -4,7 +4,7 @@ use mathlib.Core.List.{List, [], _∷_}
 use Prim.Native.Nat.{ℕ, _≤_}
 use native.Mathlib.Omega.{arith}
 use lib.ListN.{length}
-use Rattle.titles.specs.Refusals.{notUtf8, outsideRepertoire, looseMark}
+use Rattle.outcomes.specs.Refusals.{notUtf8, outsideRepertoire, looseMark}
 use Rattle.unicode.specs.Utf8.{width, encode, encodes, within, low, high, tail, twoBytes, threeBytes, fourBytes, character, front, chars, decode}
 use Rattle.unicode.specs.Repertoire.{member, marks, isMark, plain}
 use Rattle.unicode.specs.Pairs.{found, pairs}

@@ -6,11 +6,15 @@ use mathlib.Core.List.{List, [], _∷_, _++_}
 use lib.Dec.{ltb, eqb}
 use lib.ListN.{length, drop}
 use Rattle.outcomes.specs.Chain.{chain}
-use Rattle.titles.specs.Refusals.{accepted, outputShort, titleLong, notUtf8, outsideRepertoire, looseMark, maxBytes}
+use Rattle.outcomes.specs.Refusals.{accepted, noRoom, titleLong, notUtf8, outsideRepertoire, looseMark}
 use Rattle.unicode.specs.Utf8.{ill, width, encodes, decode}
 use Rattle.unicode.specs.Repertoire.{isMark, allPlain}
 use Rattle.unicode.specs.Joining.{joined, Piece, bad, one, two, pieces, accepts, composed}
-use Rattle.titles.specs.declared.Composed.{Composed}
+use Rattle.titles.specs.declared.composed.Composed.{Composed}
+
+-- 'The 511-byte limit is read on the title as given.'
+abbrev pub maxBytes : ℕ
+maxBytes = 511
 
 -- the composed bytes of a title
 unfoldable pub text : List ℕ → List ℕ
@@ -52,7 +56,7 @@ abbrev pub outcomeTests : List ℕ → List ℕ → List (Bool × Outcome)
 outcomeTests title out =
     (ltb maxBytes (length title), refusedWith (refusal titleLong 0) out)
     ∷ (not (accepts (decode title)), refusedWith (judged 0 0 (pieces (decode title))) out)
-    ∷ (ltb (length out) (length (text title)), refusedWith (refusal outputShort 0) out)
+    ∷ (ltb (length out) (length (text title)), refusedWith (refusal noRoom 0) out)
     ∷ []
 
 unfoldable pub outcome : List ℕ → List ℕ → Outcome

@@ -8,8 +8,8 @@ use lib.ListN.{length, take, drop}
 use Rattle.unicode.specs.Utf8.{scalar, encode, decode}
 use Rattle.unicode.specs.Repertoire.{isMark, inRepertoire}
 use Rattle.unicode.specs.Joining.{accepts}
-use Rattle.titles.specs.Refusals.{outputShort, titleLong, notUtf8, outsideRepertoire, looseMark, maxBytes}
-use Rattle.titles.specs.Compose.{text, refusal, Outcome, refusedWith, acceptedWith}
+use Rattle.outcomes.specs.Refusals.{noRoom, titleLong, notUtf8, outsideRepertoire, looseMark}
+use Rattle.titles.specs.Compose.{text, refusal, Outcome, refusedWith, acceptedWith, maxBytes}
 
 -- what a number says of the bytes at its place
 pub data Wrong : ℕ → List ℕ → Type 0 where
@@ -37,7 +37,7 @@ pub data Goes (title out : List ℕ) : Outcome → Type 0 where
       length title ≤ maxBytes
       → accepts (decode title) ≡ true
       → length out < length (text title)
-      → Goes title out (refusedWith (refusal outputShort 0) out)
+      → Goes title out (refusedWith (refusal noRoom 0) out)
   taken :
       length title ≤ maxBytes
       → accepts (decode title) ≡ true

@@ -19,8 +19,7 @@ use Rattle.unicode.specs.Encodings.{front-encode}
 use Rattle.unicode.specs.Decoding.{length-encode, decode-next, decode-end, decode-append, decode-encodes, ill-formed-none, behind}
 use Rattle.unicode.specs.Composes.{letter-plain, joins-mark, pieces-join}
 use Rattle.unicode.specs.NfcTheorem.{accepts-in, mark-in}
-use Rattle.titles.specs.Refusals.{maxBytes}
-use Rattle.titles.specs.Compose.{text, fault, refusal, judged, outcome}
+use Rattle.titles.specs.Compose.{text, fault, refusal, judged, outcome, maxBytes}
 use Rattle.titles.specs.Goes.{Wrong, broken, foreign, loose, FirstBad, Goes, long, wrong, short, taken}
 use Rattle.titles.specs.Outcomes as Outcomes
 use Rattle.titles.specs.Pieces.{pieces-bad}

@@ -1,4 +1,3 @@
-pub mod Refusals
 pub mod Compose
 pub mod Scan
 pub mod Pieces

@@ -9,13 +9,13 @@ use lib.Dec.{ltb, eqb}
 use lib.ListN.{length, length-append}
 use borrow.Author.Tests.{le-ltb}
 use Rattle.lists.specs.TestsLaws.{either, clash}
-use Rattle.titles.specs.Refusals.{accepted, outputShort, titleLong, maxBytes}
+use Rattle.outcomes.specs.Refusals.{accepted, noRoom, titleLong}
 use Rattle.unicode.specs.Utf8.{ill, width, encode, encodes, decode}
 use Rattle.unicode.specs.Repertoire.{isMark}
 use Rattle.unicode.specs.Decoding.{length-encode}
-use Rattle.titles.specs.declared.Composed.{Composed}
+use Rattle.titles.specs.declared.composed.Composed.{Composed}
 use Rattle.unicode.specs.Joining.{joined, Piece, bad, one, two, pieces, outs, noneBad, accepts, composed}
-use Rattle.titles.specs.Compose.{text, fault, judged, acceptance, refusal, refusedWith, acceptedWith, outcome}
+use Rattle.titles.specs.Compose.{text, fault, judged, acceptance, refusal, refusedWith, acceptedWith, outcome, maxBytes}
 
 -- over the limit
 pub long : (title out : List ℕ) → ltb maxBytes (length title) ≡ true → outcome title out ≡ refusedWith (refusal titleLong 0) out
@@ -38,7 +38,7 @@ pub short :
     → ltb maxBytes (length title) ≡ false
     → accepts (decode title) ≡ true
     → ltb (length out) (length (text title)) ≡ true
-    → outcome title out ≡ refusedWith (refusal outputShort 0) out
+    → outcome title out ≡ refusedWith (refusal noRoom 0) out
 unfolding outcome
 short title out fits all less = rw (fits, all, less)
 

@@ -3,11 +3,11 @@ use mathlib.Core.Path.{_≡_}
 use mathlib.Core.List.{List}
 use Prim.Native.Nat.{ℕ}
 use lib.ListN.{take}
-use Rattle.titles.specs.Refusals.{accepted}
+use Rattle.outcomes.specs.Refusals.{accepted}
 use Rattle.unicode.specs.Utf8.{decode}
 use Rattle.unicode.specs.Joining.{pieces}
 use Rattle.titles.specs.Compose.{text, judged}
-use Rattle.titles.specs.declared.Composed.{Composed}
+use Rattle.titles.specs.declared.composed.Composed.{Composed}
 
 -- the answer, room aside; and where it is no refusal, what the title composes to, at the front of a buffer
 pub record Scanned (title : List ℕ) (r : Composed) (buffer : List ℕ) : Type 0 where

@@ -9,13 +9,13 @@ use lib.ListN.{length, take, drop, length-append}
 use lib.Seq.{take-append-seam, take-at}
 use borrow.Author.Tests.{le-ltb, lt-ltb, ltb-false, eqb-true, eqb-false}
 use Rattle.lists.specs.TestsLaws.{and-left, and-right, and-both, either}
-use Rattle.titles.specs.Refusals.{accepted, maxBytes}
-use Rattle.titles.specs.declared.Composed.{Composed}
+use Rattle.outcomes.specs.Refusals.{accepted}
+use Rattle.titles.specs.declared.composed.Composed.{Composed}
 use Rattle.unicode.specs.Utf8.{scalar, scalars, width, encode, encodes, decode}
 use Rattle.unicode.specs.Repertoire.{isMark, plain, allPlain, allIn}
 use Rattle.unicode.specs.Nfc.{nfc}
 use Rattle.unicode.specs.Joining.{joined, accepts, composed}
-use Rattle.titles.specs.Compose.{text, acceptedWith, Outcome, outcome, Met, composedText}
+use Rattle.titles.specs.Compose.{text, acceptedWith, Outcome, outcome, Met, composedText, maxBytes}
 use Rattle.unicode.specs.Bounds.{at-least, at-most, width-2}
 use Rattle.unicode.specs.Decoding.{decode-encodes, encodes-decode, length-encode}
 use Rattle.unicode.specs.Rows.{joint}

@@ -1,9 +1,9 @@
 // One pass over a title: each piece is tested and composed.
-use crate::Composed;
-use crate::Refusal;
+use crate::composed::Composed;
 use characters::pairs;
 use characters::repertoire;
 use characters::utf8;
+use outcomes::Refusal;
 ghost use mathlib.Core.Path.{_≡_};
 ghost use Prim.Native.Nat.{_≤_};
 ghost use lib.ListN.{length, drop};
@@ -13,7 +13,7 @@ ghost use Rattle.unicode.specs.Joining.{joined};
 ghost use Rattle.titles.specs.Compose.{fault, refusal};
 ghost use Rattle.titles.specs.Scan.{Scanned};
 
-pub fn refused(number: u32, place: usize) -> Composed
+pub fn refused(number: usize, place: usize) -> Composed
     ensures { λ r. ⌜ r ≡ refusal number place ⌝ }
 {
     Composed {
@@ -24,7 +24,7 @@ pub fn refused(number: u32, place: usize) -> Composed
 }
 
 // What is wrong with a character that no piece starts with.
-fn fault_of(c: u32) -> u32
+fn fault_of(c: u32) -> usize
     ensures { λ r. ⌜ r ≡ fault c ⌝ }
 {
     if c == utf8::ILL {
@@ -74,7 +74,7 @@ pub fn scan(title: &[u8], room: &mut [u8], table: &[u16]) -> Composed
         }
     }
     Composed {
-        number: Refusal::NONE,
+        number: Refusal::ACCEPTED,
         place: 0,
         length: n,
     }

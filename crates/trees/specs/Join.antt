@@ -7,7 +7,7 @@ use mathlib.Core.Option.{Option, some}
 use Prim.Native.Nat.{ℕ, suc, _<_}
 use Rattle.lists.specs.Lists.{same}
 use Rattle.trees.specs.Nodes.{Node, Run, inner, leaf, nil, cons, typeOf, prelabel, label, heads}
-use Rattle.trees.specs.Rules.{clashing}
+use Rattle.outcomes.specs.Refusals.{clashing}
 use Rattle.trees.specs.Places.{Place, nodeAt, Fact, opened, tells, tellsIn, Le, LeIn, Shared, SharedIn}
 
 -- the join of two nodes: a tree, or the place of the first clash

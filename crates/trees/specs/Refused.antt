@@ -5,7 +5,8 @@ use mathlib.Core.List.{List, [], _∷_, _++_}
 use Prim.Native.Nat.{ℕ, _≤_, _<_}
 use lib.ListN.{length}
 use Rattle.trees.specs.Nodes.{Node, inner, typeOf, height, heads}
-use Rattle.trees.specs.Rules.{maxHeight, childrenMissing, tooHigh, saltBroken, notComposed, salted, textFits}
+use Rattle.outcomes.specs.Refusals.{childrenMissing, tooHigh, saltBroken, notComposed}
+use Rattle.trees.specs.Rules.{maxHeight, salted, textFits}
 use Rattle.trees.specs.Rows.{Entry, node, tip}
 use Rattle.trees.specs.Forest.{rowsAll, lastRun, AllFit}
 

@@ -9,7 +9,8 @@ use lib.ListN.{length, length-append, length-map}
 use borrow.Author.Tests.{lt-ltb, le-ltb}
 use Rattle.lists.specs.Lists.{all}
 use Rattle.trees.specs.Nodes.{Node, size, highest, heads, blocks}
-use Rattle.trees.specs.Rules.{maxHeight, childrenMissing, notComposed}
+use Rattle.outcomes.specs.Refusals.{childrenMissing, notComposed}
+use Rattle.trees.specs.Rules.{maxHeight}
 use Rattle.trees.specs.Rows.{Entry, node, formed, rows, kids, below, Tag, headOf, highestOf, Step, fault, faulty, left, onward, tagOf, hashed, stepOf, judged, verdict, grown}
 use Rattle.trees.specs.RowsLaws.{length-rows}
 use Rattle.trees.specs.StackLaws.{hashed-tags, complete}

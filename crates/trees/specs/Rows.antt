@@ -5,7 +5,8 @@ use Prim.Native.Nat.{ℕ, zero, suc, _+_, _-_, max}
 use lib.Dec.{ltb}
 use lib.ListN.{length, take, drop}
 use Rattle.trees.specs.Nodes.{Node, Run, inner, leaf, nil, cons, typeOf, count, size, sizes, height, Head, prelabel, label, blocksOf}
-use Rattle.trees.specs.Rules.{maxHeight, childrenMissing, tooHigh, saltBroken, notComposed, salted, countFits, leafFits, textFits}
+use Rattle.outcomes.specs.Refusals.{childrenMissing, tooHigh, saltBroken, notComposed}
+use Rattle.trees.specs.Rules.{maxHeight, salted, countFits, leafFits, textFits}
 use Rattle.trees.specs.Places.{Place}
 
 -- "One entry a node": an internal node with its number of children, or a leaf with its type and its label or value.

@@ -6,8 +6,6 @@ use Prim.Native.Nat.{ℕ, zero, suc, _≤_}
 use lib.Dec.{leb, eqb}
 use lib.ListN.{length}
 use Rattle.lists.specs.Lists.{all}
--- the refusals that a tree or its rows can meet
-pub use Rattle.outcomes.specs.Refusals.{childrenMissing, tooHigh, saltBroken, notComposed, clashing}
 use Rattle.trees.specs.Nodes.{Node, Run, inner, leaf, nil, cons, typeOf, height, Head, heads}
 
 -- "A node has a type from 0 to 1,023."

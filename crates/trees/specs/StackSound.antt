@@ -13,7 +13,8 @@ use Rattle.lists.specs.Lists.{all}
 use Rattle.lists.specs.ListsLaws.{cons-head, cons-tail, nil-cons}
 use Rattle.lists.specs.PartsLaws.{map-take, map-drop}
 use Rattle.trees.specs.Nodes.{Node, inner, leaf, height, highest, prelabel, heads, blocksOf, blocks}
-use Rattle.trees.specs.Rules.{maxHeight, childrenMissing, notComposed, salted, countFits, textFits, Fit, WellFormed}
+use Rattle.outcomes.specs.Refusals.{childrenMissing, notComposed}
+use Rattle.trees.specs.Rules.{maxHeight, salted, countFits, textFits, Fit, WellFormed}
 use Rattle.trees.specs.Rows.{Entry, node, tip, formed, rows, kids, below, grow, grown, Tag, headOf, highestOf, Step, fault, next, Verdict, faulty, left, onward, tagOf, hashed, stepOf, judged, verdict}
 use Rattle.trees.specs.RowsLaws.{rows-inj}
 use Rattle.trees.specs.StackLaws.{hashed-tags, length-heads}

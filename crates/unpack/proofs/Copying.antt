@@ -11,7 +11,7 @@ use lib.ListN.{length, take, drop, getD, set}
 use lib.Seq.{drop-cons, take-suc, set-at, append-snoc, length-take-le, take-length}
 use Rattle.lists.specs.TestsLaws.{or-left, or-right}
 use Rattle.tables.specs.Tables.{Table}
-use Rattle.tables.specs.Refusals.{accepted, noRoom}
+use Rattle.outcomes.specs.Refusals.{accepted, noRoom}
 use Rattle.slips.specs.declared.answer.Answer.{Answer}
 use Rattle.slips.specs.Answers.{refused}
 use Rattle.slips.specs.Output.{over}

@@ -7,7 +7,7 @@ use lib.Dec.{ltb, eqb}
 use lib.ListN.{length, take}
 use Rattle.outcomes.specs.Chain.{chain}
 use Rattle.trees.specs.Rows.{Entry}
-use Rattle.tables.specs.Refusals.{accepted, noRoom}
+use Rattle.outcomes.specs.Refusals.{accepted, noRoom}
 use Rattle.tables.specs.Tables.{Table, sum}
 use Rattle.slips.specs.declared.answer.Answer.{Answer}
 use Rattle.slips.specs.Answers.{refused}

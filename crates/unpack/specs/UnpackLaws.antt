@@ -8,7 +8,7 @@ use borrow.Author.Tests.{eq-eqb, eqb-true, eqb-false, le-ltb}
 use lib.Dec.{eqb}
 use lib.ListN.{length, take, drop}
 use lib.Seq.{take-at}
-use Rattle.tables.specs.Refusals.{accepted}
+use Rattle.outcomes.specs.Refusals.{accepted}
 use Rattle.tables.specs.Tables.{Table, sum, Formed}
 use Rattle.slips.specs.declared.answer.Answer.{Answer}
 use Rattle.slips.specs.Output.{over}

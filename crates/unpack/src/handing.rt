@@ -1,7 +1,7 @@
 // A table handed out: its parts copied to the buffers, where they have room.
+use outcomes::Refusal;
 use slips::answer;
 use slips::answer::Answer;
-use tables::refusals::Refusal;
 ghost use mathlib.Core.Path.{_≡_};
 ghost use Prim.Native.Nat.{_≤_};
 ghost use lib.ListN.{length};

@@ -1,13 +1,13 @@
 // A slip unpacked into the four buffers of a table.
 pub mod handing;
 
+use outcomes::Refusal;
 use slips::answer;
 use slips::answer::Answer;
 use slips::header;
 use slips::open;
 use tables::areas::Full;
 use tables::limits::Slip;
-use tables::refusals::Refusal;
 ghost use Rattle.sha2.specs.Sha256 as Sha256;
 ghost use Rattle.titles.specs.Compose.{composedText};
 ghost use Rattle.trees.specs.Rules.{maxBytes, maxNodes};

@@ -2,7 +2,7 @@ use mathlib.Core.Path.{sym, ap, _∙_}
 use mathlib.Core.Bool.{Bool, cond}
 use borrow.Author.Needs.{needs}
 use denote.Ref.{now}
-use Rattle.trees.specs.Rules.{notComposed}
+use Rattle.outcomes.specs.Refusals.{notComposed}
 use Rattle.titles.specs.Compose.{composedText}
 use Rattle.faults.specs.Steps.{below-text, above-text, at-text}
 use Rattle.faults.proofs.leaf_fault.Statement.{statement}

@@ -6,7 +6,7 @@ use native.Mathlib.Omega.{arith}
 use borrow.Author.Needs.{needs}
 use denote.Ref.{now}
 use lib.ListN.{length, take, drop, length-take, length-drop}
-use Rattle.trees.specs.Rules.{saltBroken}
+use Rattle.outcomes.specs.Refusals.{saltBroken}
 use Rattle.trees.specs.Rows.{Tag, node, highestOf, kids, stepOf}
 use Rattle.titles.specs.Compose.{composedText}
 use Rattle.faults.specs.Waiting.{Columns, kindOf, heightOf, sizeOf, greatest, faultOf}

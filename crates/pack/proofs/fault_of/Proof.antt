@@ -2,7 +2,7 @@ use Prim.Native.Nat.{ℕ}
 use mathlib.Core.Path.{sym, ap, _∙_}
 use native.Mathlib.Omega.{arith}
 use borrow.Author.Tests.{not-true, not-false}
-use Rattle.tables.specs.Refusals.{badTable}
+use Rattle.outcomes.specs.Refusals.{badTable}
 use Rattle.tables.specs.TablesLaws.{columns-told}
 use Rattle.pack.specs.PackLaws.{fault-columns, fault-empty, fault-row, fault-area, fault-free}
 use borrow.Author.Needs.{needs}

@@ -6,7 +6,7 @@ use denote.Ref.{now}
 use lib.ListN.{length}
 use lib.Seq.{length-take-le}
 use Rattle.trees.specs.Nodes.{label}
-use Rattle.tables.specs.Refusals.{accepted}
+use Rattle.outcomes.specs.Refusals.{accepted}
 use Rattle.sha2.specs.Sha256 as Sha256
 use Rattle.titles.specs.Compose.{composedText}
 use Rattle.slips.specs.declared.answer.Answer.{Answer}

@@ -1,6 +1,6 @@
 use Prim.Native.Nat.{ℕ}
 use mathlib.Core.Path.{sym, ap, _∙_}
-use Rattle.tables.specs.Refusals.{accepted}
+use Rattle.outcomes.specs.Refusals.{accepted}
 use Rattle.slips.specs.HeaderLaws.{header-long, header-short, header-edition, header-none, header-counted}
 use borrow.Author.Needs.{needs}
 use Rattle.slips.proofs.header.header_of.Statement.{statement}

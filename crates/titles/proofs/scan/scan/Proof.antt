@@ -14,7 +14,7 @@ use Rattle.titles.specs.Compose.{judged}
 use Rattle.titles.specs.Outcomes.{fault-some}
 use Rattle.titles.specs.Pieces.{next-fits}
 use Rattle.titles.proofs.Reached.{Reached, reached-start, reached-bad, reached-one, reached-two, two-fits, reached-end, reached-all, whole-small}
-use Rattle.titles.specs.declared.Composed.{Composed}
+use Rattle.titles.specs.declared.composed.Composed.{Composed}
 use Rattle.titles.proofs.scan.scan.Statement.{statement}
 use Rattle.titles.proofs.scan.scan.Tie as tie
 

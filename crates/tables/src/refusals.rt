@@ -1,2 +1,0 @@
-// The refusal numbers, for all that stands on tables.
-pub use outcomes::Refusal;
