@@ -6,9 +6,9 @@ use native.Mathlib.Numerals.{add-one}
 use native.Mathlib.Omega.{arith}
 use lib.ListN.{length, take, drop, getD, set, length-set}
 use lib.Seq.{getD-take}
-use Rattle.compression.specs.Words.{plus, ch, maj}
+use Rattle.words.specs.Words.{plus, ch, maj}
 use Rattle.compression.specs.Compression.{following, schedule, scheduled, first, second, round, rounds, added, compress, chain}
-use Rattle.compression.specs.Sha256.{sha256, three, two, constants}
+use Rattle.words.specs.Sha256.{sha256, three, two, constants}
 use Rattle.lists.specs.PartsLaws.{filled}
 
 -- T1, T2 and a round, from what the code's steps give

@@ -2,8 +2,8 @@
 use Prim.Native.Nat.{ℕ, zero, suc, _+_, _-_, _*_}
 use mathlib.Core.List.{List, [], _∷_, _++_}
 use lib.ListN.{length, getD, take, drop}
-use Rattle.compression.specs.Kind.{Kind, size}
-use Rattle.compression.specs.Words.{plus, ch, maj, words}
+use Rattle.words.specs.Kind.{Kind, size}
+use Rattle.words.specs.Words.{plus, ch, maj, words}
 
 -- step 1: W(t) = σ1(W(t-2)) + W(t-7) + σ0(W(t-15)) + W(t-16), from the words before it
 abbrev pub following : Kind → List ℕ → ℕ → ℕ

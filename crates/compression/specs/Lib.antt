@@ -1,5 +1,2 @@
 -- One block of SHA-2 as FIPS 180-4 defines it, over the width of a word.
-pub mod Words
-pub mod Kind
 pub mod Compression
-pub mod Sha256

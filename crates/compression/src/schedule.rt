@@ -1,12 +1,11 @@
 // The schedule of a block: FIPS 180-4, section 6.2.2, step 1.
-use crate::words;
 use std::num::wrapping_add_u32;
 ghost use mathlib.Core.Path.{_≡_};
 ghost use Prim.Native.Nat.{_≤_, _<_};
 ghost use lib.ListN.{length, take, set};
-ghost use Rattle.compression.specs.Words as Words;
+ghost use Rattle.words.specs.Words as Words;
 ghost use Rattle.compression.specs.Compression.{following, scheduled};
-ghost use Rattle.compression.specs.Sha256.{sha256};
+ghost use Rattle.words.specs.Sha256.{sha256};
 
 // The block's 16 words, with room for 48 more.
 fn loaded(block: &[u8]) -> [u32; 64]

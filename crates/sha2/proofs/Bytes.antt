@@ -7,8 +7,8 @@ use native.Mathlib.Numerals.{add-one}
 use native.Mathlib.Omega.{arith}
 use lib.ListN.{length, take, drop, getD, set, replicate, length-set, length-append, length-drop}
 use lib.Seq.{take-suc, take-append-add, take-all, take-length, set-at, append-snoc, paste, take-paste}
-use Rattle.compression.specs.Words.{bytes, spread}
-use Rattle.compression.specs.Sha256.{sha256}
+use Rattle.words.specs.Words.{bytes, spread}
+use Rattle.words.specs.Sha256.{sha256}
 use Rattle.sha2.specs.Padding.{closing}
 use Rattle.sha2.specs.Blocks.{length-bytes}
 

@@ -5,7 +5,7 @@ use mathlib.Core.List.{List}
 use native.Mathlib.Nat.{add-zero, add-suc, mul-suc, mul-add}
 use lib.ListN.{take, drop}
 use lib.Seq.{drop-drop}
-use Rattle.compression.specs.Kind.{Kind, size}
+use Rattle.words.specs.Kind.{Kind, size}
 use Rattle.compression.specs.Compression.{chain}
 use Rattle.lists.specs.PartsLaws.{same-part, same-front}
 

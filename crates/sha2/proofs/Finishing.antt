@@ -6,12 +6,12 @@ use native.Mathlib.Omega.{arith}
 use lib.ListN.{length, take, drop, replicate, length-append}
 use lib.Seq.{take-take, take-append-le, drop-append-le}
 use native.Mathlib.Nat.{le-refl}
-use Rattle.compression.specs.Words.{bytes, spread}
+use Rattle.words.specs.Words.{bytes, spread}
 use Rattle.compression.specs.Compression.{chain}
 use Rattle.sha2.specs.Padding.{zeros, closing, padded, blocks}
 use Rattle.sha2.specs.Digest.{digest}
 use Rattle.sha2.specs.Running.{Held}
-use Rattle.compression.specs.Sha256.{sha256, start}
+use Rattle.words.specs.Sha256.{sha256, start}
 use Rattle.sha2.specs.Sha256.{label}
 use Rattle.sha2.specs.Blocks.{blocks-taken}
 use Rattle.sha2.proofs.Chains.{chain-agree, chain-add}

@@ -7,7 +7,7 @@ use native.Mathlib.Numerals.{add-one}
 use native.Mathlib.Omega.{arith}
 use lib.ListN.{length, take, drop, length-append, length-drop, drop-of-length-le}
 use lib.Seq.{take-all, take-append-le, drop-append-le, take-append-add, drop-append-add, length-take-le, drop-drop, take-at, paste, length-paste, take-paste}
-use Rattle.compression.specs.Kind.{Kind, size}
+use Rattle.words.specs.Kind.{Kind, size}
 use Rattle.compression.specs.Compression.{chain}
 use Rattle.sha2.specs.Running.{Held}
 use Rattle.sha2.proofs.Chains.{chain-agree, chain-add}

@@ -5,11 +5,11 @@ use mathlib.Core.List.{List, [], _∷_, _++_}
 use native.Mathlib.Nat.{zero-mul, suc-mul, add-comm, mod-lt}
 use native.Mathlib.Omega.{arith}
 use lib.ListN.{length, getD, replicate, length-append, length-replicate}
-use Rattle.compression.specs.Words.{bytes, spread}
+use Rattle.words.specs.Words.{bytes, spread}
 use Rattle.compression.specs.Compression.{added, compress, chain}
 use Rattle.sha2.specs.Padding.{zeros, closing, padded, blocks}
 use Rattle.sha2.specs.Digest.{digest}
-use Rattle.compression.specs.Sha256.{sha256, start}
+use Rattle.words.specs.Sha256.{sha256, start}
 use Rattle.sha2.specs.Sha256.{label}
 
 pub length-bytes : (n x : ℕ) → length (bytes n x) ≡ n

@@ -1,8 +1,8 @@
 -- FIPS 180-4, section 6.2 (and 6.4): the digest of a text.
 use Prim.Native.Nat.{ℕ}
 use mathlib.Core.List.{List}
-use Rattle.compression.specs.Kind.{Kind}
-use Rattle.compression.specs.Words.{spread}
+use Rattle.words.specs.Kind.{Kind}
+use Rattle.words.specs.Words.{spread}
 use Rattle.compression.specs.Compression.{chain}
 use Rattle.sha2.specs.Padding.{padded, blocks}
 

@@ -2,11 +2,11 @@
 use Prim.Native.Nat.{ℕ}
 use mathlib.Core.List.{List, [], _∷_}
 use mathlib.Core.Path.{_≡_, refl}
-use Rattle.compression.specs.Words.{number, bytes, words, spread}
+use Rattle.words.specs.Words.{number, bytes, words, spread}
 use Rattle.compression.specs.Compression.{schedule, round, rounds, added, compress, chain}
 use Rattle.sha2.specs.Padding.{closing, padded, blocks}
 use Rattle.sha2.specs.Digest.{digest}
-use Rattle.compression.specs.Sha256.{sha256, constants, start}
+use Rattle.words.specs.Sha256.{sha256, constants, start}
 use Rattle.sha2.specs.Sha256.{label}
 
 -- "abcdbcdecdefdefgefghfghighijhijkijkljklmklmnlmnomnopnopq"

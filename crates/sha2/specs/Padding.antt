@@ -2,8 +2,8 @@
 use Prim.Native.Nat.{ℕ, _+_, _-_, _*_, _/_, _%_}
 use mathlib.Core.List.{List, [], _∷_, _++_}
 use lib.ListN.{length, replicate}
-use Rattle.compression.specs.Kind.{Kind, size}
-use Rattle.compression.specs.Words.{bytes}
+use Rattle.words.specs.Kind.{Kind, size}
+use Rattle.words.specs.Words.{bytes}
 
 -- bytes of the padding's length field: two words
 abbrev pub field : Kind → ℕ

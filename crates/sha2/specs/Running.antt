@@ -3,9 +3,9 @@ use Prim.Native.Nat.{ℕ, _+_, _*_, _<_}
 use mathlib.Core.List.{List, [], _∷_, _++_, append-assoc, append-nil}
 use mathlib.Core.Path.{_≡_, sym, subst}
 use lib.ListN.{length, take, drop}
-use Rattle.compression.specs.Kind.{Kind, size}
+use Rattle.words.specs.Kind.{Kind, size}
 use Rattle.compression.specs.Compression.{chain}
-use Rattle.compression.specs.Sha256.{sha256}
+use Rattle.words.specs.Sha256.{sha256}
 use Rattle.sha2.specs.Sha256.{label}
 use Rattle.sha2.specs.declared.digest.Digest.{Digest}
 

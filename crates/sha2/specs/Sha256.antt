@@ -1,7 +1,7 @@
 -- SHA-256, as document 01 names it.
 use Prim.Native.Nat.{ℕ}
 use mathlib.Core.List.{List}
-use Rattle.compression.specs.Sha256.{sha256}
+use Rattle.words.specs.Sha256.{sha256}
 use Rattle.sha2.specs.Digest.{digest}
 
 -- the SHA-256 of a text of bytes

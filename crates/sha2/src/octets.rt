@@ -1,6 +1,6 @@
 // Numbers as bytes, most significant first.
 ghost use mathlib.Core.Path.{_≡_};
-ghost use Rattle.compression.specs.Words as Words;
+ghost use Rattle.words.specs.Words as Words;
 
 fn word_octets(x: u32) -> [u8; 4]
     ensures { λ r. ⌜ r ≡ Words.bytes 4 x ⌝ }

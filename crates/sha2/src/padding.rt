@@ -3,7 +3,7 @@ use crate::octets;
 ghost use mathlib.Core.Path.{_≡_};
 ghost use Prim.Native.Nat.{_+_, _-_, _/_, _^_, _≤_, _<_};
 ghost use lib.ListN.{take};
-ghost use Rattle.compression.specs.Sha256.{sha256};
+ghost use Rattle.words.specs.Sha256.{sha256};
 ghost use Rattle.sha2.specs.Padding.{closing};
 
 // The blocks that a text of n bytes takes.

@@ -2,7 +2,7 @@ use Prim.Native.Nat.{_+_, _-_, _*_, _≤_}
 use mathlib.Core.Path.{_≡_, refl}
 use native.Mathlib.Omega.{arith}
 use Rattle.compression.specs.Compression.{chain}
-use Rattle.compression.specs.Sha256.{sha256}
+use Rattle.words.specs.Sha256.{sha256}
 use Rattle.compression.proofs.Steps.{chain-more}
 use borrow.Author.Needs.{needs}
 use Rattle.compression.proofs.chain.Statement.{statement}

@@ -4,7 +4,7 @@ use native.Mathlib.Omega.{arith}
 use lib.ListN.{length, take}
 use lib.Seq.{take-all}
 use Rattle.compression.specs.Compression.{added}
-use Rattle.compression.specs.Sha256.{sha256}
+use Rattle.words.specs.Sha256.{sha256}
 use Rattle.compression.proofs.Steps.{added-more}
 use borrow.Author.Needs.{needs}
 use Rattle.compression.proofs.rounds.added.Statement.{statement}

@@ -3,7 +3,7 @@ use mathlib.Core.Path.{_≡_, refl}
 use native.Mathlib.Omega.{arith}
 use lib.Dec.{lit<, lit≤}
 use Rattle.compression.specs.Compression.{rounds}
-use Rattle.compression.specs.Sha256.{sha256}
+use Rattle.words.specs.Sha256.{sha256}
 use Rattle.compression.proofs.Steps.{rounds-more, eight}
 use Rattle.compression.proofs.Turns.{first-fits, first-below, step-fits, step-below, next-fits, next-few, nearer}
 use Rattle.compression.proofs.rounds.mixed.Statement.{statement}

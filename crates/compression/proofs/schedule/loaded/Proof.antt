@@ -3,7 +3,7 @@ use native.Mathlib.Omega.{arith}
 use mathlib.Core.Path.{_≡_, refl}
 use Rattle.compression.proofs.Block.{words-more}
 use lib.ListN.{length, take}
-use Rattle.compression.specs.Words.{words}
+use Rattle.words.specs.Words.{words}
 use borrow.Author.Needs.{needs}
 use Rattle.compression.proofs.schedule.loaded.Statement.{statement}
 use Rattle.compression.proofs.schedule.loaded.Tie as tie

@@ -4,9 +4,9 @@ use native.Mathlib.Omega.{arith}
 use lib.Dec.{lit<, lit≤}
 use lib.ListN.{length}
 use lib.Seq.{take-all}
-use Rattle.compression.specs.Words.{words}
+use Rattle.words.specs.Words.{words}
 use Rattle.compression.specs.Compression.{schedule}
-use Rattle.compression.specs.Sha256.{constants}
+use Rattle.words.specs.Sha256.{constants}
 use Rattle.compression.proofs.Steps.{Begins, schedule-more, eight}
 use Rattle.compression.proofs.Turns.{first-fits, first-below, step-fits, step-below, next-fits, next-few, nearer, later}
 use Rattle.compression.proofs.schedule.schedule.Statement.{statement}

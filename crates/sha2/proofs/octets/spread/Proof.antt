@@ -5,7 +5,7 @@ use native.Mathlib.Omega.{arith}
 use lib.ListN.{length, take, getD}
 use lib.Seq.{take-all, paste, length-paste}
 use borrow.Rule.Slice.PartMut.{putMid}
-use Rattle.compression.specs.Words.{spread}
+use Rattle.words.specs.Words.{spread}
 use Rattle.sha2.specs.Blocks.{length-bytes}
 use Rattle.sha2.proofs.Bytes.{spread-more}
 use Rattle.lists.specs.PartsLaws.{put-is}

@@ -1,5 +1,5 @@
 use native.Mathlib.Nat.{div-one}
-use Rattle.compression.specs.Words.{bytes}
+use Rattle.words.specs.Words.{bytes}
 use borrow.Author.Needs.{needs}
 use Rattle.sha2.proofs.octets.word_octets.Statement.{statement}
 use Rattle.sha2.proofs.octets.word_octets.Tie as tie

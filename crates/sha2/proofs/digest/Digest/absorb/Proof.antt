@@ -6,7 +6,7 @@ use denote.Ref.{now}
 use lib.ListN.{length, take, length-take}
 use lib.Seq.{length-take-le, paste}
 use Rattle.compression.specs.Compression.{chain}
-use Rattle.compression.specs.Sha256.{sha256}
+use Rattle.words.specs.Sha256.{sha256}
 use Rattle.lists.specs.PartsLaws.{tail-part}
 use Rattle.sha2.proofs.Holding.{held-short, held-long}
 use borrow.Author.Needs.{needs}

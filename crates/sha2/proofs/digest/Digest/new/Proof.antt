@@ -1,6 +1,6 @@
 use mathlib.Core.Path.{refl}
 use Rattle.compression.specs.Compression.{chain}
-use Rattle.compression.specs.Sha256.{start}
+use Rattle.words.specs.Sha256.{start}
 use borrow.Author.Needs.{needs}
 use Rattle.sha2.proofs.digest.Digest.new.Statement.{statement}
 use Rattle.sha2.proofs.digest.Digest.new.Tie as tie

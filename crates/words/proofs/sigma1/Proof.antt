@@ -1,7 +1,7 @@
-use Rattle.compression.proofs.Block.{two-is}
+use Rattle.words.proofs.Functions.{two-is}
 use borrow.Author.Needs.{needs}
-use Rattle.compression.proofs.words.sigma1.Statement.{statement}
-use Rattle.compression.proofs.words.sigma1.Tie as tie
+use Rattle.words.proofs.sigma1.Statement.{statement}
+use Rattle.words.proofs.sigma1.Tie as tie
 
 returns : tie.Need-returns
 returns c = two-is 17 19 10 (c .before .before .args .x) (c .before .rotr .ensures) (c .rotr2 .ensures)

@@ -1,7 +1,7 @@
-use Rattle.compression.proofs.Block.{three-is}
+use Rattle.words.proofs.Functions.{three-is}
 use borrow.Author.Needs.{needs}
-use Rattle.compression.proofs.words.sum1.Statement.{statement}
-use Rattle.compression.proofs.words.sum1.Tie as tie
+use Rattle.words.proofs.sum1.Statement.{statement}
+use Rattle.words.proofs.sum1.Tie as tie
 
 returns : tie.Need-returns
 returns c = three-is 6 11 25 (c .before .before .before .args .x) (c .before .before .rotr .ensures) (c .before .rotr2 .ensures) (c .rotr3 .ensures)

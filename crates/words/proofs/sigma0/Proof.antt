@@ -1,7 +1,7 @@
-use Rattle.compression.proofs.Block.{two-is}
+use Rattle.words.proofs.Functions.{two-is}
 use borrow.Author.Needs.{needs}
-use Rattle.compression.proofs.words.sigma0.Statement.{statement}
-use Rattle.compression.proofs.words.sigma0.Tie as tie
+use Rattle.words.proofs.sigma0.Statement.{statement}
+use Rattle.words.proofs.sigma0.Tie as tie
 
 returns : tie.Need-returns
 returns c = two-is 7 18 3 (c .before .before .args .x) (c .before .rotr .ensures) (c .rotr2 .ensures)

@@ -2,8 +2,8 @@
 use Prim.Native.Nat.{ℕ}
 use mathlib.Core.List.{List, [], _∷_}
 use lib.Bits.{bitXor}
-use Rattle.compression.specs.Kind.{Kind}
-use Rattle.compression.specs.Words.{rotr, shr}
+use Rattle.words.specs.Kind.{Kind}
+use Rattle.words.specs.Words.{rotr, shr}
 
 -- (4.4) and (4.5): three rotations
 abbrev pub three : ℕ → ℕ → ℕ → ℕ → ℕ

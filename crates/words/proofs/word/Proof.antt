@@ -1,8 +1,8 @@
 use native.Mathlib.Omega.{arith}
 use denote.Ref.{now}
-use Rattle.compression.proofs.Block.{word-is}
-use Rattle.compression.proofs.words.word.Statement.{statement}
-use Rattle.compression.proofs.words.word.Tie as tie
+use Rattle.words.proofs.Functions.{word-is}
+use Rattle.words.proofs.word.Statement.{statement}
+use Rattle.words.proofs.word.Tie as tie
 
 returns : tie.Need-returns
 returns c =
