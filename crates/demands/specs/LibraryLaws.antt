@@ -11,7 +11,7 @@ use lib.Dec.{ltb, eqb}
 use lib.ListN.{length, drop, length-append}
 use lib.Seq.{take-at}
 use Rattle.lists.specs.Lists.{Below, same}
-use Rattle.lists.specs.TestsLaws.{and-left, and-right, and-both, or-cases}
+use Rattle.lists.specs.TestsLaws.{and-left, and-right, and-both, or-first, or-second, or-cases}
 use Rattle.lists.specs.ListsLaws.{same-refl, same-true, none-some, some-inj}
 use Rattle.trees.specs.Nodes.{Node, size, label, blocks}
 use Rattle.trees.specs.Rules.{maxNodes, maxBytes, labelBytes}
@@ -48,14 +48,6 @@ keeps-written c w out l b = take-at w (drop (length w) out) (length w) refl
 
 keeps-refused : (c out : List ℕ) (q : Answer) → (q .number ≡ accepted → ⊥) → keeps (still q out) c ≡ c
 keeps-refused c out q h = rw (ne-eqb (q .number) accepted h)
-
-or-first : (p q : Bool) → p ≡ true → (p || q) ≡ true
-or-first true q e = refl
-or-first false q e = absurd (false≢true e)
-
-or-second : (p q : Bool) → q ≡ true → (p || q) ≡ true
-or-second true q e = refl
-or-second false q e = e
 
 module _ (H : List ℕ → List ℕ) (composed : List ℕ → Bool) (f : ℕ → Bool) where
   -- an answer behind some arrivals is one on the way

@@ -8,7 +8,7 @@ use mathlib.Core.Option.{none, some}
 use native.Mathlib.Nat.{suc-add, add-suc, add-zero}
 use native.Mathlib.Omega.{arith}
 use lib.Dec.{eqb}
-use lib.ListN.{length, take, drop, replicate, length-append}
+use lib.ListN.{length, take, drop, getD, replicate, length-append}
 use lib.Seq.{getD-at}
 use borrow.Author.Tests.{eqb-true, eq-eqb}
 use Rattle.lists.specs.TestsLaws.{and-left, and-right, and-both}
@@ -44,6 +44,12 @@ pub all-append {ℓ} : {A : Type ℓ} (f : A → Bool) (x y : List A) → all f 
 all-append f [] y e g = g
 all-append f (a ∷ x) y e g =
     and-both (f a) (all f (x ++ y)) (and-left (f a) (all f x) e) (all-append f x y (and-right (f a) (all f x) e) g)
+
+-- and at every index
+pub all-at {ℓ} : {A : Type ℓ} (f : A → Bool) (l : List A) (k : ℕ) (d : A) → all f l ≡ true → k < length l → f (getD l k d) ≡ true
+all-at f [] k d e h = absurd (omega arith)
+all-at f (x ∷ l) zero d e h = and-left (f x) (all f l) e
+all-at f (x ∷ l) (suc k) d e h = all-at f l k d (and-right (f x) (all f l) e) (omega arith)
 
 -- a test that every element passes is passed by every element of a part
 module _ {A : Type 0} (f : A → Bool) where

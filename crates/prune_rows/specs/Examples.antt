@@ -1,13 +1,16 @@
 -- The definitions on a small tree, computed: a root with a dangling child and an internal child over two salts.
 use mathlib.Core.Path.{_≡_, refl}
+use mathlib.Core.Bool.{true}
 use mathlib.Core.List.{List, [], _∷_, map}
 use Prim.Native.Nat.{ℕ}
 use lib.ListN.{length}
+use Rattle.lists.specs.Lists.{same}
 use Rattle.trees.specs.Nodes.{Node, inner, leaf, nil, cons}
 use Rattle.trees.specs.Rows.{node, tip, rows, prunedRows}
 use Rattle.trees.specs.RowLabels.{labelsOf}
 use Rattle.tables.specs.PruningList.{named, firstFault, pruned}
 use Rattle.tables.specs.Cells.{countCell}
+use Rattle.prune_rows.specs.Names.{numbers}
 use Rattle.prune_rows.specs.Marks.{gone, kept, cutOff, atEnd, walk, marksOf}
 use Rattle.prune_rows.specs.Picked.{picked, rowBy}
 use Rattle.prune_rows.specs.Width.{width}
@@ -64,3 +67,10 @@ fault-leaf = refl
 -- "An entry takes 6, 267 or 20 + 8 × length bits."
 pub width-each : width (node 2 ∷ tip 0 [] ∷ tip 2 (1 ∷ 2 ∷ []) ∷ []) ≡ 309
 width-each = refl
+
+-- the internal nodes at one place, and at every place
+pub names-one : numbers (same (1 ∷ [])) 0 small ≡ 3 ∷ []
+names-one = refl
+
+pub names-all : numbers (λ p. true) 0 small ≡ 3 ∷ 4 ∷ []
+names-all = refl

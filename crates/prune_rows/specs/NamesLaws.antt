@@ -10,28 +10,22 @@ use native.Mathlib.Omega.{arith}
 use borrow.Author.Tests.{leb-true, ltb-true, ltb-false, eq-eqb, ne-eqb}
 use lib.Dec.{leb, ltb, eqb}
 use lib.ListN.{length, getD, take, length-map, List·getD-map, List·getD-eq-default}
-use Rattle.lists.specs.TestsLaws.{and-left, and-right}
+use Rattle.lists.specs.TestsLaws.{and-left}
 use Rattle.lists.specs.Lists.{all}
-use Rattle.lists.specs.ListsLaws.{none-some, some-inj}
+use Rattle.lists.specs.ListsLaws.{all-at, none-some, some-inj}
 use Rattle.trees.specs.Nodes.{Node, Run, inner, leaf, nil, cons, count, size, sizes}
 use Rattle.trees.specs.Rules.{maxChildren}
 use Rattle.trees.specs.Places.{Place, nodeAt, childAt, isDangling, Le, cut}
 use Rattle.trees.specs.PlacesLaws.{leaf-inner}
 use Rattle.trees.specs.PruneLaws.{cut-le, cut-onto, cut-agree}
-use Rattle.trees.specs.Rows.{Entry, node, tip, formed, rows, lastRow, number, numberIn}
+use Rattle.trees.specs.Rows.{node, tip, formed, rows, lastRow, number, numberIn}
 use Rattle.trees.specs.RowsLaws.{length-rows}
-use Rattle.trees.specs.NumbersLaws.{Numbered, number-low, number-in-low, number-onto, entry-at}
+use Rattle.trees.specs.NumbersLaws.{Numbered, number-low, number-in-low, number-onto, entry-at, moved}
 use Rattle.tables.specs.PruningList.{named, firstFault, pruned}
 use Rattle.tables.specs.ListRule.{Clean, Faulty, falls, outside, childless, clean-none, clean-cons, clean-tail, clean-rule, rule-clean, fault-told, fault-is, named-at}
 use Rattle.tables.specs.Cells.{countCell}
 use Rattle.prune_rows.specs.Names.{InnerAt, LeafAt, CleanList, Misnames, FaultyList, numbers, numbersIn}
 use Rattle.prune_rows.specs.Names as Names
-
--- what every element passes, each passes
-all-at : (f : Entry → Bool) (l : List Entry) (k : ℕ) (d : Entry) → all f l ≡ true → k < length l → f (getD l k d) ≡ true
-all-at f [] k d e h = absurd (omega arith)
-all-at f (x ∷ l) zero d e h = and-left (f x) (all f l) e
-all-at f (x ∷ l) (suc k) d e h = all-at f l k d (and-right (f x) (all f l) e) (omega arith)
 
 -- the tree's children, row by row
 abbrev pub countsOf : Node → List ℕ
@@ -199,9 +193,6 @@ mutual
       back (inl l) = inl (omega arith)
       back (inr l) = inr (omega arith)
 
-moved : (a b c : ℕ) → a + (b + c) ≡ a + b + c
-moved a b c = omega arith
-
 -- the list names an internal node exactly where f does
 mutual
   numbers-at : (f : Place → Bool) (b : ℕ) (n : Node) (p : Place) (m : Run) → nodeAt n p ≡ some (inner m) → named (numbers f b n) (b + number n p) ≡ f p
@@ -227,24 +218,13 @@ mutual
       ∙ rw (numbers-out (f 0) b n (b + (size n + numberIn r i p)) (inr (omega arith)), moved b (size n) (numberIn r i p))
       (numbers-in-at (λ i p. f (suc i) p) (b + size n) r i p m e)
 
--- its numbers are those of the tree's entries
-numbers-under : (f : Place → Bool) (b : ℕ) (n : Node) (k : ℕ) → k < length (numbers f b n) → getD (numbers f b n) k 0 < b + size n
-numbers-under f b n k h = go (ltb (getD (numbers f b n) k 0) (b + size n)) refl
+-- where no number from m on is named, every number of the list is below m
+named-under : (list : List ℕ) (m : ℕ) → ((x : ℕ) → m ≤ x → named list x ≡ false) → (k : ℕ) → k < length list → getD list k 0 < m
+named-under list m out k h = go (ltb (getD list k 0) m) refl
   where
-    go : (t : Bool) → ltb (getD (numbers f b n) k 0) (b + size n) ≡ t → getD (numbers f b n) k 0 < b + size n
-    go true e = ltb-true _ _ e
-    go false e =
-        absurd (true≢false (sym (named-at (numbers f b n) k (getD (numbers f b n) k 0) h refl)
-        ∙ numbers-out f b n (getD (numbers f b n) k 0) (inr (ltb-false _ _ e))))
-
-numbers-in-under : (f : ℕ → Place → Bool) (b : ℕ) (r : Run) (k : ℕ) → k < length (numbersIn f b r) → getD (numbersIn f b r) k 0 < b + sizes r
-numbers-in-under f b r k h = go (ltb (getD (numbersIn f b r) k 0) (b + sizes r)) refl
-  where
-    go : (t : Bool) → ltb (getD (numbersIn f b r) k 0) (b + sizes r) ≡ t → getD (numbersIn f b r) k 0 < b + sizes r
-    go true e = ltb-true _ _ e
-    go false e =
-        absurd (true≢false (sym (named-at (numbersIn f b r) k (getD (numbersIn f b r) k 0) h refl)
-        ∙ numbers-in-out f b r (getD (numbersIn f b r) k 0) (inr (ltb-false _ _ e))))
+    go : (t : Bool) → ltb (getD list k 0) m ≡ t → getD list k 0 < m
+    go true e = ltb-true (getD list k 0) m e
+    go false e = absurd (true≢false (sym (named-at list k (getD list k 0) h refl) ∙ out (getD list k 0) (ltb-false (getD list k 0) m e)))
 
 -- it keeps the rule, where the rows of internal nodes have children
 module _ (counts : List ℕ) where
@@ -258,7 +238,7 @@ module _ (counts : List ℕ) where
     numbers-clean f b (inner r) h =
         clean-append counts b (b + sizes r) (numbersIn (λ i p. f (i ∷ p)) b r) (cond (f []) ((b + sizes r) ∷ []) [])
         (numbers-in-clean (λ i p. f (i ∷ p)) b r (λ i p m e. h (i ∷ p) m e)) (one-clean (f []) (b + sizes r) (h [] r refl)) (omega arith)
-        (numbers-in-under (λ i p. f (i ∷ p)) b r)
+        (named-under (numbersIn (λ i p. f (i ∷ p)) b r) (b + sizes r) (λ x l. numbers-in-out (λ i p. f (i ∷ p)) b r x (inr l)))
     numbers-clean f b (leaf t v) h = clean-none counts b
 
     numbers-in-clean : (f : ℕ → Place → Bool) (b : ℕ) (r : Run)
@@ -269,7 +249,7 @@ module _ (counts : List ℕ) where
         (numbers-clean (f 0) b n (λ p m e. h 0 p m e))
         (numbers-in-clean (λ i p. f (suc i) p) (b + size n) r
         (λ i p m e. subst (λ (x : ℕ). 0 < getD counts x 0) (moved b (size n) (numberIn r i p)) (h (suc i) p m e)))
-        (omega arith) (numbers-under (f 0) b n)
+        (omega arith) (named-under (numbers (f 0) b n) (b + size n) (λ x l. numbers-out (f 0) b n x (inr l)))
 
 module _ (n : Node) (form : all formed (rows n) ≡ true) (f : Place → Bool) where
   -- the internal nodes of any set of places are named by a list that keeps the rule

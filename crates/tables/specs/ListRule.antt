@@ -7,7 +7,7 @@ use native.Mathlib.Omega.{arith}
 use lib.Dec.{leb, ltb, eqb}
 use lib.ListN.{length, getD, take, List·getD-eq-default}
 use borrow.Author.Tests.{leb-true, leb-false, ltb-true, ltb-false, le-leb, lt-leb, lt-ltb, eq-eqb, ne-eqb, eqb-true}
-use Rattle.lists.specs.TestsLaws.{and-left, and-right, and-both, or-cases}
+use Rattle.lists.specs.TestsLaws.{and-left, and-right, and-both, or-second, or-cases}
 use Rattle.tables.specs.PruningList.{named, firstFault}
 
 -- "strictly rising"
@@ -41,6 +41,12 @@ pub record Clean (counts : List ℕ) (low : ℕ) (list : List ℕ) : Type 0 wher
 abbrev may : List ℕ → ℕ → ℕ → Bool
 may counts low x = leb low x && ltb 0 (getD counts x 0)
 
+may-told : (counts : List ℕ) (low x : ℕ) → may counts low x ≡ true → (low ≤ x) × (0 < getD counts x 0)
+may-told counts low x h = (
+  leb-true low x (and-left (leb low x) (ltb 0 (getD counts x 0)) h),
+  ltb-true 0 (getD counts x 0) (and-right (leb low x) (ltb 0 (getD counts x 0)) h),
+)
+
 -- firstFault, one number at a time: one that may come is passed, and one that may not is told at its own index
 module _ (counts : List ℕ) (i low x : ℕ) (xs : List ℕ) where
   fault-later : may counts low x ≡ true → firstFault counts i low (x ∷ xs) ≡ firstFault counts (i + 1) (x + 1) xs
@@ -63,12 +69,6 @@ module _ (counts : List ℕ) (i low x : ℕ) (xs : List ℕ) where
   -- where a later index is told the number may come
   fault-passed : (k : ℕ) → firstFault counts i low (x ∷ xs) ≡ i + suc k → (may counts low x ≡ true) × (firstFault counts (i + 1) (x + 1) xs ≡ i + 1 + k)
   fault-passed k e = fault-cases (λ h q. (h, omega arith)) (λ h q. absurd (omega arith))
-
-  may-told : may counts low x ≡ true → (low ≤ x) × (0 < getD counts x 0)
-  may-told h = (
-    leb-true low x (and-left (leb low x) (ltb 0 (getD counts x 0)) h),
-    ltb-true 0 (getD counts x 0) (and-right (leb low x) (ltb 0 (getD counts x 0)) h),
-  )
 
 module _ (counts : List ℕ) where
   pub clean-cons : (low x : ℕ) (xs : List ℕ) → low ≤ x → 0 < getD counts x 0 → Clean counts (x + 1) xs → Clean counts low (x ∷ xs)
@@ -96,7 +96,7 @@ module _ (counts : List ℕ) where
   clean-from i low [] e = clean-none low
   clean-from i low (x ∷ xs) e =
       let p = fault-passed counts i low x xs (length xs) e in
-      let m = may-told counts i low x xs (p .0) in
+      let m = may-told counts low x (p .0) in
       clean-cons low x xs (m .0) (m .1) (clean-from (i + 1) (x + 1) xs (p .1))
 
   pub clean-tail : (low x : ℕ) (xs : List ℕ) → Clean counts low (x ∷ xs) → Clean counts (x + 1) xs
@@ -190,7 +190,7 @@ module _ (counts : List ℕ) where
   )
   told-from i low (x ∷ xs) (suc k) h e =
       let p = fault-passed counts i low x xs k e in
-      let m = may-told counts i low x xs (p .0) in
+      let m = may-told counts low x (p .0) in
       let t = told-from (i + 1) (x + 1) xs k (omega arith) (p .1) in
       (clean-cons counts low x (take k xs) (m .0) (m .1) (t .0), one-more low x xs k (t .1))
 
@@ -220,10 +220,6 @@ unfolding named
 named-at [] k x h e = absurd (omega arith)
 named-at (y ∷ ys) zero x h e = rw (eq-eqb y x e)
 named-at (y ∷ ys) (suc k) x h e = or-second (eqb y x) (named ys x) (named-at ys k x (omega arith) e)
-  where
-    or-second : (a b : Bool) → b ≡ true → (a || b) ≡ true
-    or-second true b p = refl
-    or-second false b p = p
 
 pub named-not : (list : List ℕ) (x : ℕ) → ((k : ℕ) → k < length list → getD list k 0 ≡ x → ⊥) → named list x ≡ false
 unfolding named

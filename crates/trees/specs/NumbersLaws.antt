@@ -135,12 +135,12 @@ mutual
       (before (rows n) (rowsIn r) x (numberIn r i p) (rows-at-in r i p x e))
 
 -- the root's entry behind all others of the tree
-record Rooted (x : Node) : Type 0 where
+record Last (x : Node) : Type 0 where
   pub front : List Entry
   pub split : rows x ≡ front ++ (lastRow x ∷ [])
   pub long : length front + 1 ≡ size x
 
-root-last : (x : Node) → Rooted x
+root-last : (x : Node) → Last x
 root-last (inner r) = record { front = rowsIn r; split = refl; long = ap (λ (k : ℕ). k + 1) (length-rows-in r) }
 root-last (leaf t v) = record { front = []; split = refl; long = omega arith }
 
@@ -148,14 +148,15 @@ root-last (leaf t v) = record { front = []; split = refl; long = omega arith }
 pub entry-at : (n : Node) (p : Place) (x : Node) → nodeAt n p ≡ some x → (d : Entry) → getD (rows n) (number n p) d ≡ lastRow x
 entry-at n p x e d =
     let w : Within (rows n) x (number n p) = rows-at n p x e in
-    let y : Rooted x = root-last x in
+    let y : Last x = root-last x in
     let split : rows n ≡ (w .front ++ y .front) ++ (lastRow x ∷ w .back) =
     w .split ∙ ap (λ (l : List Entry). w .front ++ (l ++ w .back)) (y .split) ∙ simp append-assoc in
     ap (λ (l : List Entry). getD l (number n p) d) split
     ∙ getD-at (w .front ++ y .front) (lastRow x) (w .back) d (number n p)
     (length-append (w .front) (y .front) ∙ omega (arith, w .ends, y .long))
 
-moved : (a b c : ℕ) → a + (b + c) ≡ a + b + c
+-- a child's entries are counted on from those before it
+pub moved : (a b c : ℕ) → a + (b + c) ≡ a + b + c
 moved a b c = omega arith
 
 module _ (H : List ℕ → List ℕ) where
