@@ -49,7 +49,7 @@ loop-again c =
     let second = c .before .before .digit2 .ensures .0 in
     let there : 2 * l .i + 1 < length d = omega arith in (
       search needs,
-      length-set {A = ℕ} (l .out) (l .i) (16 * c .before .before .before .before .digit .result + c .before .before .digit2 .result) ∙ l .inv .1,
+      simp length-set (l .inv .1),
       l .inv .2 ∙ hex-more d (l .i) there (omega (arith, first)) (omega (arith, second)),
       bytes-more d (l .i) there (l .out) _ _ first second (omega arith) (l .inv .3),
     )
