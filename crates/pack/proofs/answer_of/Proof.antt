@@ -23,8 +23,7 @@ returns c =
 
 measure-requires : tie.Need-measure-requires
 measure-requires c κs =
-    let k = (fault-told _ (sym (ap (λ (f : Fault). f .number) (c .before .before .fault-of .ensures)) ∙ c .if1 .left)) .columns in
-    k
+    fault-told _ (sym (ap (λ (f : Fault). f .number) (c .before .before .fault-of .ensures)) ∙ c .if1 .left) .columns
 
 returns-2 : tie.Need-returns-2
 returns-2 c =

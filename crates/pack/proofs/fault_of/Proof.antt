@@ -16,7 +16,7 @@ returns-2 : tie.Need-returns-2
 returns-2 c = fault-empty _ (sym (c .before .before .columns-fit .ensures) ∙ not-false _ (c .before .if1 .left)) (c .if2 .taken)
 
 first-bad-requires : tie.Need-first-bad-requires
-first-bad-requires c κs = let k = columns-told _ _ _ (sym (c .before .before .columns-fit .ensures) ∙ not-false _ (c .before .if1 .left)) in (k .counted, k .measured)
+first-bad-requires c κs = let k = columns-told _ _ _ (sym (c .before .before .columns-fit .ensures) ∙ not-false _ (c .before .if1 .left)) in (k .counts-long, k .lengths-long)
 
 returns-3 : tie.Need-returns-3
 returns-3 c =
@@ -24,7 +24,7 @@ returns-3 c =
     ap (λ (n : ℕ). record { number = badTable; place = n }) bad ∙ fault-row _ (sym (c .before .before .before .before .columns-fit .ensures) ∙ not-false _ (c .before .before .before .if1 .left)) (c .before .before .if2 .left) (rw bad at (c .if3 .taken))
 
 sum-requires : tie.Need-sum-requires
-sum-requires c κs = let k = columns-told _ _ _ (sym (c .before .before .before .before .columns-fit .ensures) ∙ not-false _ (c .before .before .before .if1 .left)) in omega (arith, k .measured, k .few)
+sum-requires c κs = let k = columns-told _ _ _ (sym (c .before .before .before .before .columns-fit .ensures) ∙ not-false _ (c .before .before .before .if1 .left)) in omega (arith, k .lengths-long, k .few)
 
 returns-4 : tie.Need-returns-4
 returns-4 c =

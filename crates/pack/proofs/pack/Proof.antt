@@ -17,9 +17,8 @@ returns c = pack-refused _ _ _ _ (c .before .before .answer-of .ensures .answer)
 write-requires : tie.Need-write-requires
 write-requires c κs =
     let r = c .before .before .before .answer-of .ensures .roomy (c .before .if1 .left) in
-    let k = r .form .columns in
     record {
-      columns = k;
+      columns = r .form .columns;
       form = r .form .rows;
       filled = omega (arith, r .form .area);
       room = r .fits;
