@@ -78,14 +78,7 @@ fn wide(b: u8) -> u64 {
 }
 
 pub fn print(text: &mut [u8; page::BYTES], t: Tally) -> usize {
-    let mut at = number(text, 0, t.accepted, b' ');
-    at = number(text, at, t.refused, b' ');
-    at = number(text, at, t.sum, b' ');
-    number(text, at, t.sums, b'\n')
-}
-
-// A number with a byte behind it.
-fn number(text: &mut [u8; page::BYTES], from: usize, n: u64, behind: u8) -> usize {
-    let at = page::decimal(text, from, n as usize);
-    page::byte(text, at, behind)
+    let counts = [t.accepted as usize, t.refused as usize, t.sum as usize];
+    let at = page::numbered(text, 0, b"@ @ @ ", counts);
+    page::numbered(text, at, b"@\n", [t.sums as usize, 0, 0])
 }

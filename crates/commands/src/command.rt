@@ -1,6 +1,5 @@
 // The words that name commands.
-use bytes::scan;
-use lines::parts;
+use lines::words;
 
 // The commands' numbers, in the order of the lines that have their words.
 pub struct Command {}
@@ -22,6 +21,9 @@ impl Command {
 
     pub const CALLS: usize = 7;
 
+    // Behind the commands' own usage lines stands the program's.
+    pub const NONE: usize = 8;
+
     pub const VERSION: usize = 8;
 
     pub const HELP: usize = 9;
@@ -30,23 +32,20 @@ impl Command {
 }
 
 pub fn named(word: &[u8]) -> usize {
-    line_of(
+    words::number(
         b"check\ntree\nunpack\npack\nprune\njoin\nfind\ncalls\n--version\nhelp\n--help\n-h\n",
         word,
     )
 }
 
-// The number of the line that is a word; behind the last where none is.
-fn line_of(lines: &[u8], word: &[u8]) -> usize {
-    let mut number = 0;
-    let mut at = 0;
-    while at < lines.len() {
-        let end = scan::find(lines, at, lines.len(), b'\n');
-        if check::same(parts::bytes(lines, at, end), word) {
-            return number;
-        }
-        number += 1;
-        at = end + 1;
+// Whether a command takes so many arguments, the program's name and the command's word among them.
+pub fn fits(command: usize, count: usize) -> bool {
+    match command {
+        Command::CHECK => 3 <= count,
+        Command::TREE..=Command::PACK => count == 3,
+        Command::PRUNE | Command::FIND => 4 <= count,
+        Command::JOIN => count == 4,
+        Command::CALLS => count == 2,
+        _ => true,
     }
-    number
 }

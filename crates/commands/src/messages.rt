@@ -1,7 +1,8 @@
-// What is said on standard error, a line each, and how to use the program.
+// What is said on standard error, a line each, and how to use the program. A file is told by the number of its argument.
 use crate::refusals;
 use libc::STDOUT_FILENO;
 use lines::page;
+use lines::words;
 use outcomes::Refusal;
 use table_text::faults;
 
@@ -36,106 +37,103 @@ pub fn cannot_write() {
     page::say(b"desk", b"cannot write");
 }
 
-// A command is used with the words behind its own.
-pub fn usage(command: &[u8], words: &[u8]) {
-    named(b"desk: usage: desk ", command, words);
+// How a command is used, by its number; behind the last, how the program is.
+pub fn usage(command: usize) {
+    page::say(
+        b"desk",
+        words::line(
+            b"usage: desk check FILE..
+usage: desk tree FILE
+usage: desk unpack FILE
+usage: desk pack FILE
+usage: desk prune FILE ENTRY..
+usage: desk join FILE FILE
+usage: desk find TYPE FILE..
+usage: desk calls
+usage: desk COMMAND ..; desk help lists the commands
+",
+            command,
+        ),
+    );
 }
 
-pub fn no_command(word: &[u8]) {
-    named(b"desk: usage: no command ", word, b"; desk help lists them");
+// A text by its pattern, in which `$` stands for argument i.
+pub fn form(
+    text: &mut [u8; page::BYTES],
+    at: usize,
+    pattern: &[u8],
+    numbers: [usize; 3],
+    i: usize,
+) -> usize {
+    let mut space = io::buffer();
+    let n = os::arg(i, &mut space);
+    page::form(text, at, pattern, numbers, &space[..n])
 }
 
-pub fn no_number(word: &[u8]) {
-    named(b"desk: usage: ", word, b" is no number from 0 to 65535");
-}
-
-pub fn too_many() {
-    named(b"desk: usage: ", b"", b"more entries than a slip has");
-}
-
-pub fn cannot_read(name: &[u8]) {
-    named(b"desk: cannot read ", name, b"");
-}
-
-pub fn too_long(name: &[u8]) {
-    named(b"desk: ", name, b": longer than the text of any slip");
-}
-
-fn named(before: &[u8], name: &[u8], behind: &[u8]) {
+// Says a text of that kind.
+pub fn said(pattern: &[u8], numbers: [usize; 3], i: usize) {
     let mut text = [0u8; page::BYTES];
-    let mut to = page::word(&mut text, 0, before);
-    to = page::name(&mut text, to, name);
-    to = page::word(&mut text, to, behind);
-    ended(&mut text, to);
+    let to = form(&mut text, 0, pattern, numbers, i);
+    page::complain(&text, to);
 }
 
-fn ended(text: &mut [u8; page::BYTES], from: usize) {
-    let to = page::byte(text, from, b'\n');
-    page::complain(text, to);
-}
-
-pub fn no_row(name: &[u8], line: usize, fault: usize) {
+pub fn no_row(i: usize, line: usize, fault: usize) {
     let mut text = [0u8; page::BYTES];
-    let mut to = begun(&mut text, name);
-    to = number(&mut text, to, b": no row in line ", line);
-    to = page::word(&mut text, to, b": ");
-    to = faults::told(&mut text, to, fault);
-    ended(&mut text, to);
+    let at = form(
+        &mut text,
+        0,
+        b"desk: $: no row in line @: ",
+        [line, 0, 0],
+        i,
+    );
+    let to = faults::told(&mut text, at, fault);
+    page::complain(&text, to);
 }
 
-// How many of the files were refused, where some were.
-pub fn some_refused(refused: usize, files: usize) {
-    if refused == 0 {
-        return;
-    }
+pub fn refused(i: usize, refusal: usize, place: usize) {
     let mut text = [0u8; page::BYTES];
-    let mut to = number(&mut text, 0, b"desk: ", refused);
-    to = number(&mut text, to, b" of ", files);
-    to = page::word(&mut text, to, b" files refused");
-    ended(&mut text, to);
+    let at = form(
+        &mut text,
+        0,
+        b"desk: $: refused @ at @",
+        [refusal, place, 0],
+        i,
+    );
+    let to = refusals::told(&mut text, at, refusal, place, 0);
+    page::complain(&text, to);
 }
 
-pub fn refused(name: &[u8], refusal: usize, place: usize) {
+// A refusal of what the files of a join are together.
+pub fn both_refused(refusal: usize, place: usize, second: usize) {
     let mut text = [0u8; page::BYTES];
-    let mut to = begun(&mut text, name);
-    to = number_at(&mut text, to, refusal, place);
-    to = refusals::told(&mut text, to, refusal, place, 0);
-    ended(&mut text, to);
+    let at = both(&mut text, refusal, place);
+    let to = refusals::told(&mut text, at, refusal, place, second);
+    page::complain(&text, to);
 }
 
-// A refusal of what two files are together.
-pub fn both_refused(first: &[u8], other: &[u8], refusal: usize, place: usize, second: usize) {
+fn both(text: &mut [u8; page::BYTES], refusal: usize, place: usize) -> usize {
+    let at = form(text, 0, b"desk: $ and ", [0, 0, 0], 2);
+    form(text, at, b"$: refused @ at @", [refusal, place, 0], 3)
+}
+
+// A refusal of a number in a pruning list, and which of three things is wrong with it.
+pub fn unlisted(place: usize, entry: usize, why: usize) {
     let mut text = [0u8; page::BYTES];
-    let mut to = begun(&mut text, first);
-    to = page::word(&mut text, to, b" and ");
-    to = page::name(&mut text, to, other);
-    to = number_at(&mut text, to, refusal, place);
-    to = refusals::told(&mut text, to, refusal, place, second);
-    ended(&mut text, to);
+    let at = form(
+        &mut text,
+        0,
+        b"desk: $: refused @ at @: number @ of the list is ",
+        [Refusal::BAD_LIST, place, entry],
+        2,
+    );
+    let to = reason(&mut text, at, why);
+    page::complain(&text, to);
 }
 
-// A refusal of a number in a pruning list.
-pub fn unlisted(name: &[u8], place: usize, entry: usize, why: &[u8]) {
-    let mut text = [0u8; page::BYTES];
-    let mut to = begun(&mut text, name);
-    to = number_at(&mut text, to, Refusal::BAD_LIST, place);
-    to = number(&mut text, to, b": number ", entry);
-    to = page::word(&mut text, to, why);
-    ended(&mut text, to);
-}
-
-fn begun(text: &mut [u8; page::BYTES], name: &[u8]) -> usize {
-    let to = page::word(text, 0, b"desk: ");
-    page::name(text, to, name)
-}
-
-fn number_at(text: &mut [u8; page::BYTES], from: usize, refusal: usize, place: usize) -> usize {
-    let to = number(text, from, b": refused ", refusal);
-    number(text, to, b" at ", place)
-}
-
-// A number behind a word.
-pub fn number(text: &mut [u8; page::BYTES], from: usize, word: &[u8], n: usize) -> usize {
-    let to = page::word(text, from, word);
-    page::decimal(text, to, n)
+fn reason(text: &mut [u8; page::BYTES], at: usize, why: usize) -> usize {
+    let words = words::line(
+        b"no entry\nno internal node\nnot above the one before\n",
+        why,
+    );
+    page::form(text, at, b"$\n", [0, 0, 0], words)
 }

@@ -1,30 +1,32 @@
 // What is told of a check: the words of document 01's refusal table, and what stands at the place of a refusal.
 use crate::messages;
 use lines::page;
+use lines::words;
 use outcomes::Refusal;
-use table_text::words;
 use tables::limits::Slip;
 
-// The rest of a file's line in `desk check`.
+// The line of a file in `desk check`; i is the number of its argument.
 pub fn accepted(
     text: &mut [u8; page::BYTES],
     from: usize,
+    i: usize,
     length: usize,
     blocks: usize,
     label: &[u8; Slip::LABEL_BYTES],
 ) -> usize {
-    let mut to = messages::number(text, from, b" accepted ", length);
-    to = messages::number(text, to, b" ", blocks);
-    to = page::byte(text, to, b' ');
-    to = page::hex(text, to, label);
-    page::byte(text, to, b'\n')
+    let to = messages::form(text, from, b"$ accepted @ @ ", [length, blocks, 0], i);
+    page::form(text, to, b"%\n", [0, 0, 0], label)
 }
 
-pub fn refused(text: &mut [u8; page::BYTES], from: usize, number: usize, place: usize) -> usize {
-    let mut to = messages::number(text, from, b" refused ", number);
-    to = messages::number(text, to, b" ", place);
-    to = told(text, to, number, place, 0);
-    page::byte(text, to, b'\n')
+pub fn refused(
+    text: &mut [u8; page::BYTES],
+    from: usize,
+    i: usize,
+    number: usize,
+    place: usize,
+) -> usize {
+    let to = messages::form(text, from, b"$ refused @ @", [number, place, 0], i);
+    told(text, to, number, place, 0)
 }
 
 // What the place is where the number tells, and the words, each behind a colon.
@@ -35,8 +37,7 @@ pub fn told(
     place: usize,
     second: usize,
 ) -> usize {
-    let mut to = page::word(text, from, b": ");
-    to = placed(text, to, number, place, second);
+    let to = placed(text, from, number, place, second);
     worded(text, to, number)
 }
 
@@ -49,30 +50,21 @@ fn placed(
 ) -> usize {
     match number {
         Refusal::CUT_SHORT | Refusal::CHILDREN_MISSING..=Refusal::NOT_COMPOSED => {
-            one(text, from, b"entry ", place)
+            page::numbered(text, from, b": entry @", [place, 0, 0])
         }
-        Refusal::BAD_TABLE => one(text, from, b"row ", place),
-        Refusal::CLASHING => both(text, from, place, second),
+        Refusal::BAD_TABLE => page::numbered(text, from, b": row @", [place, 0, 0]),
+        Refusal::CLASHING => page::numbered(text, from, b": entry @: entry @", [place, second, 0]),
         _ => from,
     }
 }
 
-fn one(text: &mut [u8; page::BYTES], from: usize, what: &[u8], place: usize) -> usize {
-    let to = messages::number(text, from, what, place);
-    page::word(text, to, b": ")
-}
-
-// The entries of a clash, in the first slip and in the second.
-fn both(text: &mut [u8; page::BYTES], from: usize, first: usize, second: usize) -> usize {
-    let to = one(text, from, b"entry ", first);
-    one(text, to, b"entry ", second)
-}
-
 // The table's words, a line a number.
 fn worded(text: &mut [u8; page::BYTES], at: usize, number: usize) -> usize {
-    page::word(
+    page::form(
         text,
         at,
+        b": $\n",
+        [0, 0, 0],
         words::line(
             b"accepted
 slip over 32,768 bytes

@@ -3,74 +3,72 @@ use commands::files;
 use commands::messages;
 use commands::refusals;
 use lines::page;
-use lines::reading::Got;
 use outcomes::Refusal;
-ghost use Prim.Native.Nat.{_≤_};
 
-// How many bytes stand on the page behind a file's line, and how many refusals the line tells: one or none.
+// How many bytes stand on the page behind a file's line, and whether the line tells a refusal.
 struct Line {
     to: usize,
-    refused: usize,
-}
-
-pub fn check(count: usize) {
-    if count < 3 {
-        messages::usage(b"check", b" FILE..");
-        return;
-    }
-    lines_of(count);
+    refused: bool,
 }
 
 // A line for each argument that names a file, and behind them how many were refused.
-fn lines_of(count: usize) {
+pub fn check(count: usize) {
     let mut text = [0u8; page::BYTES];
     let mut to = 0;
     let mut refused = 0;
     let mut i = 2;
     while i < count {
-        let line = argument(&mut text, to, i);
+        let line = file(&mut text, to, i);
         to = line.to;
-        refused += line.refused;
+        refused = counted(refused, line.refused);
         i += 1;
     }
-    if page::flush(&text, to) == page::BROKEN {
+    ended(&text, to, refused, i - 2);
+}
+
+// One more where there is one.
+fn counted(n: usize, one: bool) -> usize {
+    if one {
+        if n < usize::MAX {
+            return n + 1;
+        }
+    }
+    n
+}
+
+fn ended(text: &[u8; page::BYTES], to: usize, refused: usize, files: usize) {
+    if page::flush(text, to) == page::BROKEN {
         messages::cannot_write();
         return;
     }
-    messages::some_refused(refused, i - 2);
+    if 0 < refused {
+        messages::said(b"desk: @ of @ files refused\n", [refused, files, 0], 0);
+    }
 }
 
-fn argument(text: &mut [u8; page::BYTES], from: usize, i: usize) -> Line
-    ensures { λ r. ⌜ r .refused ≤ 1 ⌝ }
-{
-    let mut space = io::buffer();
-    let n = os::arg(i, &mut space);
-    file(text, from, &space[..n])
-}
-
-fn file(text: &mut [u8; page::BYTES], from: usize, name: &[u8]) -> Line
-    ensures { λ r. ⌜ r .refused ≤ 1 ⌝ }
-{
-    let mut slip = [0u8; files::ROOM];
-    let got = files::read(name, &mut slip);
-    let Got::Bytes(n) = got else {
+fn file(text: &mut [u8; page::BYTES], from: usize, i: usize) -> Line {
+    let mut space = [0u8; files::ROOM];
+    let n = files::read(i, &mut space);
+    if n == files::UNREAD {
         return Line {
             to: from,
-            refused: 0,
+            refused: false,
         };
-    };
-    let a = slips::check::check(files::front(&slip, n));
-    let label = a.label;
-    let to = page::name(text, from, name);
+    }
+    checked(text, from, i, files::front(&space, n))
+}
+
+fn checked(text: &mut [u8; page::BYTES], from: usize, i: usize, slip: &[u8]) -> Line {
+    let a = slips::check::check(slip);
     if a.number == Refusal::ACCEPTED {
-        Line {
-            to: refusals::accepted(text, to, a.length, a.blocks, &label),
-            refused: 0,
-        }
-    } else {
-        Line {
-            to: refusals::refused(text, to, a.number, a.place),
-            refused: 1,
-        }
+        let label = a.label;
+        return Line {
+            to: refusals::accepted(text, from, i, a.length, a.blocks, &label),
+            refused: false,
+        };
+    }
+    Line {
+        to: refusals::refused(text, from, i, a.number, a.place),
+        refused: true,
     }
 }

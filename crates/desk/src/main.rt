@@ -1,9 +1,10 @@
-// Slips on the command line: a word, and behind it the files and numbers that it asks for.
+// Slips on the command line: a word, and behind it the files and numbers that it asks for. A file is known by the number
+// of its argument.
 mod checking;
 mod finding;
 mod forms;
 mod making;
-mod tree;
+mod table;
 
 use commands::command;
 use commands::command::Command;
@@ -13,34 +14,36 @@ use requests::session;
 fn main() {
     let count = os::arg_count();
     if count < 2 {
-        messages::usage(b"COMMAND ..", b"; desk help lists the commands");
+        messages::usage(Command::NONE);
         return;
     }
     let mut space = io::buffer();
     let n = os::arg(1, &mut space);
-    run(&space[..n], count);
+    run(command::named(&space[..n]), count);
 }
 
-// Runs the command that a word names.
-fn run(word: &[u8], count: usize) {
-    let c = command::named(word);
-    match c {
-        Command::CHECK => checking::check(count),
-        Command::TREE..=Command::PACK => forms::of_file(c, word, count),
-        Command::PRUNE => making::prune(count),
-        Command::JOIN => making::join(count),
-        Command::FIND => finding::find(count),
-        Command::CALLS => calls(count),
-        Command::VERSION => messages::version(),
-        Command::HELP..=Command::LAST_HELP => messages::help(),
-        _ => messages::no_command(word),
-    }
-}
-
-fn calls(count: usize) {
-    if count != 2 {
-        messages::usage(b"calls", b"");
+fn run(command: usize, count: usize) {
+    if !command::fits(command, count) {
+        messages::usage(command);
         return;
     }
-    session::run();
+    match command {
+        Command::CHECK => checking::check(count),
+        Command::TREE..=Command::PACK => forms::of_file(command),
+        Command::PRUNE => making::prune(count),
+        Command::JOIN => making::join(),
+        Command::FIND => finding::find(count),
+        Command::CALLS => session::run(),
+        Command::VERSION => messages::version(),
+        Command::HELP..=Command::LAST_HELP => messages::help(),
+        _ => no_command(),
+    }
+}
+
+fn no_command() {
+    messages::said(
+        b"desk: usage: no command $; desk help lists them\n",
+        [0, 0, 0],
+        1,
+    );
 }

@@ -2,7 +2,7 @@
 // a list with a comma between two. A field of bytes or a list that holds none is `-`.
 //
 // All fields of a line are decoded into two areas, one of bytes and one of cells. Field k has the places from
-// ends[k] up to ends[k + 1] of the area of its kind. A byte and a number each take two bytes of the line at least.
+// ends[k] up to ends[k + 1] of the area of its kind. The bytes of any line find room, since each takes two digits.
 //
 // A function that decodes is told how far the area is filled, and answers how far it is filled then, or BAD. Of BAD, or
 // of a full area, comes BAD: so it need be looked at only once, at the end.
@@ -15,38 +15,29 @@ ghost use lib.ListN.{length};
 // The longest line, in bytes.
 pub const LINE: usize = input::LINE;
 
-// What an area holds.
-pub const AREA: usize = LINE / 2;
+// What the area of bytes holds.
+pub const BYTES: usize = LINE / 2;
+
+// What the area of cells holds: the lists of a line have no more numbers together.
+pub const CELLS: usize = 200000;
 
 // The most fields that a line has.
 const FIELDS: usize = 9;
 
 pub const ENDS: usize = FIELDS + 1;
 
-const BAD: usize = usize::MAX;
+pub const BAD: usize = usize::MAX;
 
 // Over every number that a cell holds.
-const OVER: u32 = 65536;
-
-// Where bytes that were decoded end in their area.
-pub enum Put {
-    To(usize),
-    Bad,
-}
-
-// What a word is that should be a number below 65,536.
-pub enum Whole {
-    Is(u16),
-    Not,
-}
+pub const OVER: u32 = 65536;
 
 // Decodes the fields that `shape` names, a letter each: b for bytes, l for a list, n for a number. False where
 // the line has others, or more than an area holds.
 pub fn read(
     line: &[u8],
     shape: &[u8],
-    cells: &mut [u16; AREA],
-    bytes: &mut [u8; AREA],
+    cells: &mut [u16; CELLS],
+    bytes: &mut [u8; BYTES],
     ends: &mut [usize; ENDS],
 ) -> bool
     requires { ⌜ length (now shape) < 10 ⌝ }
@@ -72,8 +63,8 @@ fn decoded(
     field: &[u8],
     kind: u8,
     from: usize,
-    cells: &mut [u16; AREA],
-    bytes: &mut [u8; AREA],
+    cells: &mut [u16; CELLS],
+    bytes: &mut [u8; BYTES],
 ) -> usize {
     if kind == b'n' {
         return one(field, cells, from);
@@ -88,15 +79,7 @@ fn decoded(
 }
 
 // Bytes in hex.
-pub fn hex(field: &[u8], area: &mut [u8; AREA], from: usize) -> Put {
-    let to = octets(field, area, from);
-    if to == BAD {
-        return Put::Bad;
-    }
-    Put::To(to)
-}
-
-fn octets(field: &[u8], area: &mut [u8; AREA], from: usize) -> usize {
+pub fn octets(field: &[u8], area: &mut [u8; BYTES], from: usize) -> usize {
     if field.len() == 0 {
         return BAD;
     }
@@ -110,21 +93,21 @@ fn octets(field: &[u8], area: &mut [u8; AREA], from: usize) -> usize {
 }
 
 // Puts the byte of two digits into the area.
-fn octet(high: u8, low: u8, area: &mut [u8; AREA], to: usize) -> usize {
+fn octet(high: u8, low: u8, area: &mut [u8; BYTES], to: usize) -> usize {
     if 15 < high {
         return BAD;
     }
     if 15 < low {
         return BAD;
     }
-    if AREA <= to {
+    if BYTES <= to {
         return BAD;
     }
     area[to] = high * 16 + low;
     to + 1
 }
 
-fn list(field: &[u8], area: &mut [u16; AREA], from: usize) -> usize {
+fn list(field: &[u8], area: &mut [u16; CELLS], from: usize) -> usize {
     let mut to = from;
     let mut at = 0;
     while at < field.len() {
@@ -139,29 +122,20 @@ fn list(field: &[u8], area: &mut [u16; AREA], from: usize) -> usize {
 }
 
 // Puts the number that a word is into the area.
-fn one(word: &[u8], area: &mut [u16; AREA], to: usize) -> usize {
+fn one(word: &[u8], area: &mut [u16; CELLS], to: usize) -> usize {
     let value = number_of(word);
     if OVER <= value {
         return BAD;
     }
-    if AREA <= to {
+    if CELLS <= to {
         return BAD;
     }
     area[to] = value as u16;
     to + 1
 }
 
-// The number that a word is from its first byte to its last.
-pub fn whole_of(word: &[u8]) -> Whole {
-    let value = number_of(word);
-    if OVER <= value {
-        return Whole::Not;
-    }
-    Whole::Is(value as u16)
-}
-
-// The same, or OVER.
-fn number_of(word: &[u8]) -> u32
+// The number that a word is from its first byte to its last, or OVER.
+pub fn number_of(word: &[u8]) -> u32
     ensures { λ r. ⌜ r ≤ 65536 ⌝ }
 {
     if word.len() == 0 {
@@ -205,23 +179,23 @@ fn digit(text: &[u8], i: usize) -> u8 {
 }
 
 // The bytes of field k.
-pub fn text<'a>(bytes: &'a [u8; AREA], ends: &[usize; ENDS], k: usize) -> &'a [u8] {
+pub fn text<'a>(bytes: &'a [u8; BYTES], ends: &[usize; ENDS], k: usize) -> &'a [u8] {
     parts::bytes(bytes, start(ends, k), end(ends, k))
 }
 
 // The numbers of field k, a list.
-pub fn column<'a>(cells: &'a [u16; AREA], ends: &[usize; ENDS], k: usize) -> &'a [u16] {
+pub fn column<'a>(cells: &'a [u16; CELLS], ends: &[usize; ENDS], k: usize) -> &'a [u16] {
     parts::cells(cells, start(ends, k), end(ends, k))
 }
 
 // Field k, a number, as it stands in its cell.
-pub fn cell(cells: &[u16; AREA], ends: &[usize; ENDS], k: usize) -> u16 {
+pub fn cell(cells: &[u16; CELLS], ends: &[usize; ENDS], k: usize) -> u16 {
     let at = start(ends, k);
-    if at < AREA { cells[at] } else { 0 }
+    if at < CELLS { cells[at] } else { 0 }
 }
 
 // Field k, a number.
-pub fn number(cells: &[u16; AREA], ends: &[usize; ENDS], k: usize) -> usize
+pub fn number(cells: &[u16; CELLS], ends: &[usize; ENDS], k: usize) -> usize
     ensures { λ r. ⌜ r ≤ 65535 ⌝ }
 {
     cell(cells, ends, k) as usize

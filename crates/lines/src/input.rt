@@ -6,8 +6,9 @@ use libc::STDIN_FILENO;
 ghost use Prim.Native.Nat.{_≤_, _<_};
 ghost use Rattle.lines.specs.Input.{Stands, room};
 
-// The longest line that is handed out whole, in bytes.
-pub const LINE: usize = 400000;
+// The longest line that is handed out whole, in bytes: more than a request takes with two tables of 1,023 rows of 511
+// bytes.
+pub const LINE: usize = 2200000;
 
 // A line that fills the area is handed out as far as it goes there, and the rest of it is passed over.
 pub const ROOM: usize = LINE + 1;

@@ -76,16 +76,63 @@ pub fn close(page: &[u8; BYTES], at: usize, program: &[u8]) {
 // A line on standard error: who says it, and what.
 pub fn say(program: &[u8], words: &[u8]) {
     let mut text = [0u8; BYTES];
-    let mut at = word(&mut text, 0, program);
-    at = word(&mut text, at, b": ");
-    at = word(&mut text, at, words);
-    at = byte(&mut text, at, b'\n');
-    complain(&text, at);
+    let at = form(&mut text, 0, b"$: ", [0, 0, 0], program);
+    let to = form(&mut text, at, b"$\n", [0, 0, 0], words);
+    complain(&text, to);
 }
 
 // Writes what stands on the page to standard error.
 pub fn complain(page: &[u8; BYTES], at: usize) {
     io::write_all(STDERR_FILENO, parts::bytes(page, 0, at));
+}
+
+// A text by its pattern: `@` in it stands for the next of the numbers, `%` for the bytes in hex, `$` for the bytes as a
+// name, and every other byte for itself. One call in the place of many costs a check far less.
+pub fn form(
+    page: &mut [u8; BYTES],
+    at: usize,
+    pattern: &[u8],
+    numbers: [usize; 3],
+    bytes: &[u8],
+) -> usize {
+    let mut n = at;
+    let mut k = 0;
+    let mut i = 0;
+    while i < pattern.len() {
+        let sign = pattern[i];
+        n = sign_put(page, n, sign, nth(numbers, k), bytes);
+        k = behind(k, sign);
+        i += 1;
+    }
+    n
+}
+
+// The same for a pattern that asks for no bytes.
+pub fn numbered(page: &mut [u8; BYTES], at: usize, pattern: &[u8], numbers: [usize; 3]) -> usize {
+    form(page, at, pattern, numbers, &pattern[..0])
+}
+
+fn sign_put(page: &mut [u8; BYTES], at: usize, sign: u8, number: usize, bytes: &[u8]) -> usize {
+    match sign {
+        b'@' => decimal(page, at, number),
+        b'%' => hex(page, at, bytes),
+        b'$' => name(page, at, bytes),
+        _ => byte(page, at, sign),
+    }
+}
+
+fn nth(numbers: [usize; 3], k: usize) -> usize {
+    if k < 3 { numbers[k] } else { 0 }
+}
+
+// Which of the numbers is the next behind a sign.
+fn behind(k: usize, sign: u8) -> usize {
+    if sign == b'@' {
+        if k < 3 {
+            return k + 1;
+        }
+    }
+    k
 }
 
 // A name as it was given, but for `?` in the place of each control byte: it stays on its line.

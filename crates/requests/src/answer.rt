@@ -8,26 +8,15 @@ pub fn bad(text: &mut [u8; page::BYTES], at: usize) -> usize {
 
 // Number, place, second place, side, length, blocks and label.
 pub fn head(text: &mut [u8; page::BYTES], from: usize, a: Answer) -> usize {
-    let mut at = number(text, from, a.number);
-    at = number(text, at, a.place);
-    at = number(text, at, a.second);
-    at = number(text, at, a.side);
-    at = number(text, at, a.length);
-    at = number(text, at, a.blocks);
     let label = a.label;
-    page::hex(text, at, &label)
+    let at = page::numbered(text, from, b"@ @ @ ", [a.number, a.place, a.second]);
+    page::form(text, at, b"@ @ @ %", [a.side, a.length, a.blocks], &label)
 }
 
 // The same, and then the buffer.
 pub fn slip(text: &mut [u8; page::BYTES], from: usize, a: Answer, buffer: &[u8]) -> usize {
     let at = head(text, from, a);
     bytes(text, at, buffer)
-}
-
-// A number with a space behind it.
-pub fn number(text: &mut [u8; page::BYTES], from: usize, n: usize) -> usize {
-    let at = page::decimal(text, from, n);
-    page::byte(text, at, b' ')
 }
 
 // A column with a space before it.
@@ -38,7 +27,5 @@ pub fn column(text: &mut [u8; page::BYTES], from: usize, cells: &[u16]) -> usize
 
 // Bytes with a space before them, and the line's end.
 pub fn bytes(text: &mut [u8; page::BYTES], from: usize, buffer: &[u8]) -> usize {
-    let mut at = page::byte(text, from, b' ');
-    at = page::hex(text, at, buffer);
-    page::byte(text, at, b'\n')
+    page::form(text, from, b" %\n", [0, 0, 0], buffer)
 }

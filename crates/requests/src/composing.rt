@@ -6,8 +6,8 @@ use lines::parts;
 
 // compose TITLE ROOM: the answer has number, place and length, and the buffer
 pub fn compose(
-    cells: &[u16; fields::AREA],
-    bytes: &[u8; fields::AREA],
+    cells: &[u16; fields::CELLS],
+    bytes: &[u8; fields::BYTES],
     ends: &[usize; fields::ENDS],
     text: &mut [u8; page::BYTES],
     at: usize,
@@ -20,8 +20,6 @@ pub fn compose(
 
 fn composed(title: &[u8], out: &mut [u8], text: &mut [u8; page::BYTES], from: usize) -> usize {
     let a = titles::compose(title, out);
-    let mut at = answer::number(text, from, a.number);
-    at = answer::number(text, at, a.place);
-    at = page::decimal(text, at, a.length);
+    let at = page::numbered(text, from, b"@ @ @", [a.number, a.place, a.length]);
     answer::bytes(text, at, out)
 }

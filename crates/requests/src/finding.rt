@@ -4,8 +4,8 @@ use lines::page;
 
 // find TYPE, and of each record TYPES COUNTS LENGTHS VALUES: the answer has the record that holds it and the value
 pub fn find(
-    cells: &[u16; fields::AREA],
-    bytes: &[u8; fields::AREA],
+    cells: &[u16; fields::CELLS],
+    bytes: &[u8; fields::BYTES],
     ends: &[usize; fields::ENDS],
     text: &mut [u8; page::BYTES],
     from: usize,

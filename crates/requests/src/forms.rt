@@ -1,12 +1,13 @@
-// The calls between a slip and its table: check, pack, unpack.
+// The calls that read a slip: check and unpack.
 use crate::answer;
 use crate::room;
 use lines::page;
 use lines::parts;
+use slips::answer::Answer;
 
 // check SLIP
 pub fn check(
-    bytes: &[u8; fields::AREA],
+    bytes: &[u8; fields::BYTES],
     ends: &[usize; fields::ENDS],
     text: &mut [u8; page::BYTES],
     at: usize,
@@ -16,39 +17,10 @@ pub fn check(
     page::byte(text, to, b'\n')
 }
 
-// pack TYPES COUNTS LENGTHS VALUES ROOM
-pub fn pack(
-    cells: &[u16; fields::AREA],
-    bytes: &[u8; fields::AREA],
-    ends: &[usize; fields::ENDS],
-    text: &mut [u8; page::BYTES],
-    at: usize,
-) -> usize {
-    let mut out = [room::FILL; room::MOST];
-    let n = parts::byte_room(&out, fields::number(cells, ends, 4));
-    packed(cells, bytes, ends, &mut out[..n], text, at)
-}
-
-fn packed(
-    cells: &[u16; fields::AREA],
-    bytes: &[u8; fields::AREA],
-    ends: &[usize; fields::ENDS],
-    out: &mut [u8],
-    text: &mut [u8; page::BYTES],
-    at: usize,
-) -> usize {
-    let types = fields::column(cells, ends, 0);
-    let counts = fields::column(cells, ends, 1);
-    let lengths = fields::column(cells, ends, 2);
-    let values = fields::text(bytes, ends, 3);
-    let a = pack::pack(types, counts, lengths, values, out);
-    answer::slip(text, at, a, out)
-}
-
 // unpack SLIP ROOM ROOM ROOM ROOM: cells of types, counts and lengths, and bytes of values
 pub fn unpack(
-    cells: &[u16; fields::AREA],
-    bytes: &[u8; fields::AREA],
+    cells: &[u16; fields::CELLS],
+    bytes: &[u8; fields::BYTES],
     ends: &[usize; fields::ENDS],
     text: &mut [u8; page::BYTES],
     at: usize,
@@ -80,9 +52,21 @@ fn unpacked(
     lengths: &mut [u16],
     values: &mut [u8],
     text: &mut [u8; page::BYTES],
-    from: usize,
+    at: usize,
 ) -> usize {
     let a = unpack::unpack(slip, types, counts, lengths, values);
+    told(a, types, counts, lengths, values, text, at)
+}
+
+fn told(
+    a: Answer,
+    types: &[u16],
+    counts: &[u16],
+    lengths: &[u16],
+    values: &[u8],
+    text: &mut [u8; page::BYTES],
+    from: usize,
+) -> usize {
     let mut at = answer::head(text, from, a);
     at = answer::column(text, at, types);
     at = answer::column(text, at, counts);

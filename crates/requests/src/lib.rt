@@ -1,8 +1,8 @@
 // Requests for the public calls, a line each, and their answers.
 mod answer;
+mod call;
 mod composing;
 mod finding;
-mod form;
 mod forms;
 mod making;
 mod request;

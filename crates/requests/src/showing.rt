@@ -4,18 +4,17 @@ use lines::parts;
 
 // show SLIP: the answer is the text, as bytes
 pub fn show(
-    bytes: &[u8; fields::AREA],
+    bytes: &[u8; fields::BYTES],
     ends: &[usize; fields::ENDS],
     text: &mut [u8; page::BYTES],
     at: usize,
 ) -> usize {
     let mut shown = [0u8; page::BYTES];
     let n = shown::slip(&mut shown, 0, fields::text(bytes, ends, 0));
-    let to = hex(text, at, &shown, n);
-    page::byte(text, to, b'\n')
+    told(text, at, &shown, n)
 }
 
 // The first n bytes of a page.
-fn hex(text: &mut [u8; page::BYTES], at: usize, shown: &[u8; page::BYTES], n: usize) -> usize {
-    page::hex(text, at, parts::bytes(shown, 0, n))
+fn told(text: &mut [u8; page::BYTES], at: usize, shown: &[u8; page::BYTES], n: usize) -> usize {
+    page::form(text, at, b"%\n", [0, 0, 0], parts::bytes(shown, 0, n))
 }

@@ -12,39 +12,32 @@ pub fn slip(text: &mut [u8; page::BYTES], from: usize, slip: &[u8]) -> usize {
     let mut lengths = [0u16; Slip::MAX_NODES];
     let mut values = [0u8; Slip::MAX_BYTES];
     let a = unpack::unpack(slip, &mut types, &mut counts, &mut lengths, &mut values);
-    if a.number != Refusal::ACCEPTED {
-        return refused(text, from, a);
+    let n = nodes(slip, a.number);
+    let at = first(text, from, n, a);
+    pairs(text, at, parts::cells(&types, 0, n), &lengths, &values)
+}
+
+// How many nodes are shown: none of a slip that was refused.
+fn nodes(slip: &[u8], refusal: usize) -> usize {
+    if refusal != Refusal::ACCEPTED {
+        return 0;
     }
     let h = header::header_of(slip);
-    let nodes = h.count;
-    let mut at = first(text, from, nodes, a.blocks);
+    h.count
+}
+
+fn first(text: &mut [u8; page::BYTES], from: usize, nodes: usize, a: Answer) -> usize {
+    if a.number != Refusal::ACCEPTED {
+        return page::numbered(text, from, b"refused @ @\n", [a.number, a.place, 0]);
+    }
     let label = a.label;
-    at = root(text, at, label);
-    pairs(text, at, parts::cells(&types, 0, nodes), &lengths, &values)
-}
-
-fn refused(text: &mut [u8; page::BYTES], from: usize, a: Answer) -> usize {
-    let mut at = page::word(text, from, b"refused ");
-    at = page::decimal(text, at, a.number);
-    at = page::byte(text, at, b' ');
-    at = page::decimal(text, at, a.place);
-    page::byte(text, at, b'\n')
-}
-
-fn first(text: &mut [u8; page::BYTES], from: usize, nodes: usize, blocks: usize) -> usize {
-    let mut at = page::word(text, from, b"slip ");
-    at = page::decimal(text, at, Slip::EDITION);
-    at = page::byte(text, at, b' ');
-    at = page::decimal(text, at, nodes);
-    at = page::byte(text, at, b' ');
-    at = page::decimal(text, at, blocks);
-    page::byte(text, at, b'\n')
-}
-
-fn root(text: &mut [u8; page::BYTES], from: usize, label: [u8; Slip::LABEL_BYTES]) -> usize {
-    let mut at = page::word(text, from, b"root ");
-    at = page::hex(text, at, &label);
-    page::byte(text, at, b'\n')
+    let at = page::numbered(
+        text,
+        from,
+        b"slip @ @ @\n",
+        [Slip::EDITION, nodes, a.blocks],
+    );
+    page::form(text, at, b"root %\n", [0, 0, 0], &label)
 }
 
 // The pairs of type 2 or above, row after row.
@@ -71,13 +64,7 @@ fn pairs(
 }
 
 fn pair(text: &mut [u8; page::BYTES], from: usize, kind: usize, value: &[u8]) -> usize {
-    let mut at = page::word(text, from, b"pair ");
-    at = page::decimal(text, at, kind);
-    at = page::byte(text, at, b' ');
-    at = page::decimal(text, at, value.len());
-    at = page::byte(text, at, b' ');
-    at = page::hex(text, at, value);
-    page::byte(text, at, b'\n')
+    page::form(text, from, b"pair @ @ %\n", [kind, value.len(), 0], value)
 }
 
 fn wide(cell: u16) -> usize {

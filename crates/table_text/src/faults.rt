@@ -1,6 +1,6 @@
 // Why a line is no row.
-use crate::words;
 use lines::page;
+use lines::words;
 
 // The faults, each with the number of the line that has its words.
 pub struct Fault {}
@@ -23,12 +23,16 @@ impl Fault {
     pub const LONG: usize = 7;
 
     pub const ROWS: usize = 8;
+
+    pub const NONE: usize = 9;
 }
 
 pub fn told(text: &mut [u8; page::BYTES], at: usize, fault: usize) -> usize {
-    page::word(
+    page::form(
         text,
         at,
+        b"$\n",
+        [0, 0, 0],
         words::line(
             b"a row begins with inner, gone or pair
 no number from 0 to 65535

@@ -2,9 +2,8 @@
 use crate::faults;
 use crate::faults::Fault;
 use bytes::scan;
-use fields::Put;
-use fields::Whole;
 use lines::parts;
+use lines::words;
 use tables::limits::Slip;
 ghost use Prim.Native.Nat.{_<_};
 
@@ -16,56 +15,45 @@ pub const ROWS: usize = Slip::MAX_NODES;
 
 pub const CELLS: usize = 3 * ROWS;
 
-// How many rows and bytes of values were read, or the number of the line that is no row, and why.
-pub enum Table {
-    Rows { rows: usize, used: usize },
-    Not { line: usize, why: usize },
+// How many rows and bytes of values were read, and what is wrong with the line behind them, if it is no row.
+pub struct Table {
+    pub rows: usize,
+    pub used: usize,
+    pub fault: usize,
 }
 
-// What a line says, and where its value ends among the values.
-enum Row {
-    Is {
-        kind: u16,
-        count: u16,
-        length: u16,
-        to: usize,
-    },
-    Not(usize),
+// What a line says, where its value ends among the values, and what is wrong with it.
+struct Row {
+    kind: u16,
+    count: u16,
+    length: u16,
+    to: usize,
+    fault: usize,
 }
 
-pub fn read(text: &[u8], cells: &mut [u16; CELLS], values: &mut [u8; fields::AREA]) -> Table {
+pub fn read(text: &[u8], cells: &mut [u16; CELLS], values: &mut [u8; fields::BYTES]) -> Table {
     let mut rows = 0;
     let mut used = 0;
     let mut at = 0;
     while at < text.len() {
         if ROWS <= rows {
-            return Table::Not {
-                line: ROWS + 1,
-                why: Fault::ROWS,
-            };
+            return ended(rows, used, Fault::ROWS);
         }
         let end = scan::find(text, at, text.len(), b'\n');
-        match row_of(&text[at..end], values, used) {
-            Row::Is {
-                kind,
-                count,
-                length,
-                to,
-            } => {
-                keep(cells, rows, kind, count, length);
-                used = to;
-            }
-            Row::Not(why) => {
-                return Table::Not {
-                    line: rows + 1,
-                    why,
-                };
-            }
+        let row = row_of(&text[at..end], values, used);
+        if row.fault != Fault::NONE {
+            return ended(rows, used, row.fault);
         }
+        keep(cells, rows, row.kind, row.count, row.length);
+        used = row.to;
         rows += 1;
         at = end + 1;
     }
-    Table::Rows { rows, used }
+    ended(rows, used, Fault::NONE)
+}
+
+fn ended(rows: usize, used: usize, fault: usize) -> Table {
+    Table { rows, used, fault }
 }
 
 fn keep(cells: &mut [u16; CELLS], row: usize, kind: u16, count: u16, length: u16)
@@ -77,21 +65,20 @@ fn keep(cells: &mut [u16; CELLS], row: usize, kind: u16, count: u16, length: u16
 }
 
 // The value, if there is one, goes behind the values that there are.
-fn row_of(line: &[u8], values: &mut [u8; fields::AREA], used: usize) -> Row {
+fn row_of(line: &[u8], values: &mut [u8; fields::BYTES], used: usize) -> Row {
     let said = parts::bytes(line, 0, spoken(line));
     let end = scan::find(said, 0, said.len(), b' ');
-    let word = parts::bytes(said, 0, end);
-    let rest = parts::bytes(said, end + 1, said.len());
-    if check::same(word, b"inner") {
-        return inner(rest, used);
+    let word = words::number(b"inner\ngone\npair\n", parts::bytes(said, 0, end));
+    worded(word, parts::bytes(said, end + 1, said.len()), values, used)
+}
+
+fn worded(word: usize, rest: &[u8], values: &mut [u8; fields::BYTES], used: usize) -> Row {
+    match word {
+        0 => inner(rest, used),
+        1 => valued(0, rest, values, used),
+        2 => pair(rest, values, used),
+        _ => no_row(Fault::WORD),
     }
-    if check::same(word, b"gone") {
-        return valued(0, rest, values, used);
-    }
-    if check::same(word, b"pair") {
-        return pair(rest, values, used);
-    }
-    Row::Not(Fault::WORD)
 }
 
 // How much of a line is read: what stands before a `#` that has a space before it.
@@ -108,48 +95,68 @@ fn spoken(line: &[u8]) -> usize {
 }
 
 fn inner(word: &[u8], used: usize) -> Row {
-    match fields::whole_of(word) {
-        Whole::Is(count) => Row::Is {
-            kind: 0,
-            count,
-            length: 0,
-            to: used,
-        },
-        Whole::Not => Row::Not(Fault::NUMBER),
+    let count = fields::number_of(word);
+    if fields::OVER <= count {
+        return no_row(Fault::NUMBER);
+    }
+    Row {
+        kind: 0,
+        count: count as u16,
+        length: 0,
+        to: used,
+        fault: Fault::NONE,
     }
 }
 
-fn pair(rest: &[u8], values: &mut [u8; fields::AREA], used: usize) -> Row {
+fn pair(rest: &[u8], values: &mut [u8; fields::BYTES], used: usize) -> Row {
     let end = scan::find(rest, 0, rest.len(), b' ');
-    match fields::whole_of(parts::bytes(rest, 0, end)) {
-        Whole::Is(kind) => valued(kind, parts::bytes(rest, end + 1, rest.len()), values, used),
-        Whole::Not => Row::Not(Fault::NUMBER),
+    let kind = fields::number_of(parts::bytes(rest, 0, end));
+    if fields::OVER <= kind {
+        return no_row(Fault::NUMBER);
     }
+    valued(
+        kind as u16,
+        parts::bytes(rest, end + 1, rest.len()),
+        values,
+        used,
+    )
 }
 
-fn valued(kind: u16, digits: &[u8], values: &mut [u8; fields::AREA], used: usize) -> Row {
+fn valued(kind: u16, digits: &[u8], values: &mut [u8; fields::BYTES], used: usize) -> Row {
     if check::same(digits, b"-") {
         return leaf(kind, used, used);
     }
-    match fields::hex(digits, values, used) {
-        Put::To(to) => leaf(kind, used, to),
-        Put::Bad => Row::Not(faults::of_digits(digits)),
+    let to = fields::octets(digits, values, used);
+    if to == fields::BAD {
+        return no_row(faults::of_digits(digits));
     }
+    leaf(kind, used, to)
 }
 
 // A row, but for a value whose length no cell holds.
 fn leaf(kind: u16, from: usize, to: usize) -> Row {
     if to < from {
-        return Row::Not(Fault::LONG);
+        return no_row(Fault::LONG);
     }
     if 65535 < to - from {
-        return Row::Not(Fault::LONG);
+        return no_row(Fault::LONG);
     }
-    Row::Is {
+    Row {
         kind,
         count: 0,
         length: (to - from) as u16,
         to,
+        fault: Fault::NONE,
+    }
+}
+
+fn no_row(fault: usize) -> Row {
+    Row {
+        kind: 0,
+        count: 0,
+        length: 0,
+        to: 0,
+        fault,
     }
 }
 

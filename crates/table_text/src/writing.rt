@@ -33,45 +33,26 @@ fn line(
     value: &[u8],
 ) -> usize {
     if 0 < count {
-        return inner(text, from, count);
+        return page::numbered(text, from, b"inner @\n", [count, 0, 0]);
     }
     if kind == 0 {
-        return gone(text, from, value);
+        return page::form(text, from, b"gone %\n", [0, 0, 0], value);
     }
-    let to = pair(text, from, kind, value);
-    page::byte(text, to, b'\n')
+    pair(text, from, kind, value)
 }
 
-pub fn inner(text: &mut [u8; page::BYTES], from: usize, count: usize) -> usize {
-    let mut to = page::word(text, from, b"inner ");
-    to = page::decimal(text, to, count);
-    page::byte(text, to, b'\n')
-}
-
-fn gone(text: &mut [u8; page::BYTES], from: usize, label: &[u8]) -> usize {
-    let mut to = page::word(text, from, b"gone ");
-    to = page::hex(text, to, label);
-    page::byte(text, to, b'\n')
-}
-
-// A pair, without the line's end.
 pub fn pair(text: &mut [u8; page::BYTES], from: usize, kind: usize, value: &[u8]) -> usize {
-    let mut to = page::word(text, from, b"pair ");
-    to = page::decimal(text, to, kind);
-    to = page::byte(text, to, b' ');
-    to = page::hex(text, to, value);
-    if value.len() == 0 {
-        return to;
+    if legible(kind, value) {
+        return page::form(text, from, b"pair @ % # $\n", [kind, 0, 0], value);
     }
-    if !is_text(kind) {
-        return to;
-    }
-    to = page::word(text, to, b" # ");
-    page::word(text, to, value)
+    page::form(text, from, b"pair @ %\n", [kind, 0, 0], value)
 }
 
-// Whether the values of a type are text.
-pub fn is_text(kind: usize) -> bool {
+// Whether a value is shown as text as well: one of a type of text, and not empty.
+pub fn legible(kind: usize, value: &[u8]) -> bool {
+    if value.len() == 0 {
+        return false;
+    }
     if kind < Slip::FIRST_TEXT {
         return false;
     }
