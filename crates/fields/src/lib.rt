@@ -1,8 +1,9 @@
 // The fields of a line, each after a space: bytes in lower-case hex, and numbers below 65,536 in decimal, one or
 // a list with a comma between two. A field of bytes or a list that holds none is `-`.
 //
-// All fields of a line are decoded into two areas, one of bytes and one of cells. Field k has the places from
-// ends[k] up to ends[k + 1] of the area of its kind. The bytes of any line find room, since each takes two digits.
+// All fields of a line are decoded into two areas, one of bytes and one of cells. In `ends` stands how far each is filled
+// before a field: at k the area of bytes before field k, at PLACES + k that of cells. The bytes of any line find room, since
+// each takes two digits.
 //
 // A function that decodes is told how far the area is filled, and answers how far it is filled then, or BAD. Of BAD, or
 // of a full area, comes BAD: so it need be looked at only once, at the end.
@@ -22,14 +23,22 @@ pub const BYTES: usize = LINE / 2;
 pub const CELLS: usize = 200000;
 
 // The most fields that a line has.
-const FIELDS: usize = 9;
+pub const FIELDS: usize = 9;
 
-pub const ENDS: usize = FIELDS + 1;
+const PLACES: usize = FIELDS + 1;
+
+pub const ENDS: usize = 2 * PLACES;
 
 pub const BAD: usize = usize::MAX;
 
 // Over every number that a cell holds.
 pub const OVER: u32 = 65536;
+
+// How far the two areas are filled.
+struct Filled {
+    bytes: usize,
+    cells: usize,
+}
 
 // Decodes the fields that `shape` names, a letter each: b for bytes, l for a list, n for a number. False where
 // the line has others, or more than an area holds.
@@ -43,7 +52,8 @@ pub fn read(
     requires { ⌜ length (now shape) < 10 ⌝ }
 {
     ends[0] = 0;
-    let mut to = 0;
+    ends[PLACES] = 0;
+    let mut to = Filled { bytes: 0, cells: 0 };
     let mut at = 0;
     let mut k = 0;
     while k < shape.len() {
@@ -54,28 +64,33 @@ pub fn read(
         at = scan::find(line, start, line.len(), b' ');
         to = decoded(&line[start..at], shape[k], to, cells, bytes);
         k += 1;
-        ends[k] = to;
+        ends[k] = to.bytes;
+        ends[PLACES + k] = to.cells;
     }
-    to != BAD && at == line.len()
+    to.bytes != BAD && to.cells != BAD && at == line.len()
 }
 
 fn decoded(
     field: &[u8],
     kind: u8,
-    from: usize,
+    from: Filled,
     cells: &mut [u16; CELLS],
     bytes: &mut [u8; BYTES],
-) -> usize {
+) -> Filled {
+    let mut to = from;
     if kind == b'n' {
-        return one(field, cells, from);
+        to.cells = one(field, cells, from.cells);
+        return to;
     }
     if check::same(field, b"-") {
-        return from;
+        return to;
     }
     if kind == b'b' {
-        return octets(field, bytes, from);
+        to.bytes = octets(field, bytes, from.bytes);
+        return to;
     }
-    list(field, cells, from)
+    to.cells = list(field, cells, from.cells);
+    to
 }
 
 // Bytes in hex.
@@ -185,12 +200,12 @@ pub fn text<'a>(bytes: &'a [u8; BYTES], ends: &[usize; ENDS], k: usize) -> &'a [
 
 // The numbers of field k, a list.
 pub fn column<'a>(cells: &'a [u16; CELLS], ends: &[usize; ENDS], k: usize) -> &'a [u16] {
-    parts::cells(cells, start(ends, k), end(ends, k))
+    parts::cells(cells, first(ends, k), last(ends, k))
 }
 
 // Field k, a number, as it stands in its cell.
 pub fn cell(cells: &[u16; CELLS], ends: &[usize; ENDS], k: usize) -> u16 {
-    let at = start(ends, k);
+    let at = first(ends, k);
     if at < CELLS { cells[at] } else { 0 }
 }
 
@@ -201,11 +216,20 @@ pub fn number(cells: &[u16; CELLS], ends: &[usize; ENDS], k: usize) -> usize
     cell(cells, ends, k) as usize
 }
 
-// Where field k starts and ends in its area.
+// Where field k starts and ends in the area of bytes.
 fn start(ends: &[usize; ENDS], k: usize) -> usize {
     if k < FIELDS { ends[k] } else { 0 }
 }
 
 fn end(ends: &[usize; ENDS], k: usize) -> usize {
     if k < FIELDS { ends[k + 1] } else { 0 }
+}
+
+// And in the area of cells.
+fn first(ends: &[usize; ENDS], k: usize) -> usize {
+    if k < FIELDS { ends[PLACES + k] } else { 0 }
+}
+
+fn last(ends: &[usize; ENDS], k: usize) -> usize {
+    if k < FIELDS { ends[PLACES + k + 1] } else { 0 }
 }

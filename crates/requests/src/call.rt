@@ -51,7 +51,7 @@ fn shaped(
     bytes: &mut [u8; fields::BYTES],
     ends: &mut [usize; fields::ENDS],
 ) -> bool {
-    if fields::ENDS <= shape.len() {
+    if fields::FIELDS < shape.len() {
         return false;
     }
     fields::read(line, shape, cells, bytes, ends)
