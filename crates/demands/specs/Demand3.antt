@@ -6,8 +6,9 @@ use Prim.Native.Nat.{ℕ, _≤_}
 use mathlib.Core.Bool.{Bool, true, false, true≢false}
 use mathlib.Core.List.{List}
 use mathlib.Core.Logic.{_⊎_, inl, inr}
-use mathlib.Core.Path.{_≡_, refl, sym, ap, _∙_, subst, subst₂}
+use mathlib.Core.Path.{_≡_, sym, ap, _∙_, subst, subst₂}
 use lib.ListN.{length}
+use Rattle.lists.specs.TestsLaws.{refuted}
 use Rattle.lists.specs.Lists.{Below}
 use Rattle.trees.specs.Nodes.{Node, label}
 use Rattle.trees.specs.Rules.{labelBytes}
@@ -57,17 +58,13 @@ module _ (H : List ℕ → List ℕ) (composed : List ℕ → Bool) (l : List �
       let x = got-from H composed l xs t g in
       subst (Got (read H composed l) ys) (x .tree) (got-reached H composed l ys (x .slip) (to (x .slip) (x .our) (x .reached)) (x .our))
 
-  quietly : (f : Bool) → (f ≡ true → ⊥) → f ≡ false
-  quietly true h = absurd (h refl)
-  quietly false h = refl
-
   fitted : (xs : List Arrival) → ever H composed misfits (start l) xs ≡ false
       → Ends.didNotFit H (read H composed l) (fits H composed l) l xs ≡ false
-  fitted xs e = quietly _ (λ d. true≢false (sym (misfit-run H composed l xs (start l) (bare l) bare-held d) ∙ e))
+  fitted xs e = refuted _ (λ d. true≢false (sym (misfit-run H composed l xs (start l) (bare l) bare-held d) ∙ e))
 
   unshown : (xs : List Arrival) → ever H composed clashes (start l) xs ≡ false
       → Ends.answered14 H (read H composed l) (fits H composed l) l xs ≡ false
-  unshown xs e = quietly _ (λ d. true≢false (sym (clash-run H composed l xs (start l) (bare l) bare-held d) ∙ e))
+  unshown xs e = refuted _ (λ d. true≢false (sym (clash-run H composed l xs (start l) (bare l) bare-held d) ∙ e))
 
   same-bytes : (xs ys : List Arrival) → Agree H (read H composed l) (fits H composed l) l xs ys → Same H composed l xs ys
   same-bytes xs ys a =
