@@ -33,7 +33,7 @@ use Rattle.slips.specs.declared.answer.Answer.{Answer}
 use Rattle.slips.specs.Answers.{refused, taken}
 use Rattle.tables.specs.Limits.{edition}
 use Rattle.slips.specs.Check.{headerBits, editionOf, countOf, readingOf, paddingFits, settledTests, settled, headerTests, headerOf, headed, bodyOf, checkOf}
-use Rattle.slips.specs.Output.{over}
+use Rattle.outcomes.specs.Outcome.{over}
 use Rattle.slips.specs.SlipTree.{slipTree}
 use Rattle.slips.specs.SlipTreeLaws.{check-tree}
 use Rattle.pack.specs.Pack.{rowsOf, badRow, faultTests, faultOf, tabled, sizeTests, judgedTests, judgedAs, answerOf, packOf}
@@ -46,7 +46,7 @@ use Rattle.join_tables.specs.Joined.{tooLarge, largeTests, joinedOf}
 use Rattle.join.specs.Join.{leaving, joinOf}
 use Rattle.demands.specs.InOrder.{Case, on, among, InOrder}
 use Rattle.demands.specs.InOrderLaws.{free, linked, onto, one-of, past}
-use Rattle.demands.specs.Refusals.{says, Stated, Refuses, Leaves, Hands, OneTree, rowCases, listCases, headerCases, treeCase, roomCase, endCases, entryCase, entryCases, bodyCases, slipCases, unpackCases, formedCases, packCases, pruneCases, treesCases, joinCases, slipNumbers, unpackNumbers, packNumbers, pruneNumbers, joinNumbers}
+use Rattle.demands.specs.Refusals.{says, Stated, Refuses, StatedOutcome, OneTree, rowCases, listCases, headerCases, treeCase, roomCase, endCases, entryCase, entryCases, bodyCases, slipCases, unpackCases, formedCases, packCases, pruneCases, treesCases, joinCases, slipNumbers, unpackNumbers, packNumbers, pruneNumbers, joinNumbers}
 
 -- a test as its negation
 swap : {A : Type 0} (b : Bool) (x y : A) → cond b x y ≡ cond (not b) y x
@@ -364,7 +364,7 @@ module _ (H : List ℕ → List ℕ) (composed : List ℕ → Bool) where
       let a : Answer = checkOf H composed s in
       let t : Table = tableOf (readingOf s .rows) in
       chain-each (λ u. InOrder says (unpackCases H composed s b) (u .answer .number ≡ accepted) (u .answer)) (handedTests a t b)
-      (record { answer = a; buffers = overAll t b }) (
+      (record { answer = a; left = overAll t b }) (
         λ e. slip-refused _ s _ (eqb-false (a .number) accepted (not-true (eqb (a .number) accepted) e)),
         λ e.
             let good : a .number ≡ accepted = eqb-true (a .number) accepted (not-false (eqb (a .number) accepted) e) in (
@@ -373,7 +373,7 @@ module _ (H : List ℕ → List ℕ) (composed : List ℕ → Bool) where
             ),
       )
 
-  pub unpack-stated : (s : List ℕ) (b : Table) → Hands unpackNumbers (unpackCases H composed s b) b (unpackOf H composed s b)
+  pub unpack-stated : (s : List ℕ) (b : Table) → StatedOutcome unpackNumbers (unpackCases H composed s b) b (unpackOf H composed s b)
   unfolding unpackOf handedOf
   unpack-stated s b =
       let a : Answer = checkOf H composed s in
@@ -387,7 +387,7 @@ module _ (H : List ℕ → List ℕ) (composed : List ℕ → Bool) where
                   (slip-listed (among unpackNumbers) (among-more slipNumbers (noRoom ∷ [])) s) refl;
             };
         kept =
-            chain-each (λ u. Refuses (u .answer) → u .buffers ≡ b) (handedTests a t b) (record { answer = a; buffers = overAll t b }) (
+            chain-each (λ u. Refuses (u .answer) → u .left ≡ b) (handedTests a t b) (record { answer = a; left = overAll t b }) (
               λ e h. refl,
               λ e. (λ l h. refl, λ l h. absurd (h (eqb-true (a .number) accepted (not-false (eqb (a .number) accepted) e)))),
             );
@@ -481,7 +481,7 @@ module _ (H : List ℕ → List ℕ) (composed : List ℕ → Bool) where
             ),
       )
 
-  pub pack-stated : (t : Table) (out : List ℕ) → Leaves packNumbers (packCases H composed t (length out)) out (packOf H composed t out)
+  pub pack-stated : (t : Table) (out : List ℕ) → StatedOutcome packNumbers (packCases H composed t (length out)) out (packOf H composed t out)
   unfolding packOf
   pack-stated t out =
       record {
@@ -503,16 +503,16 @@ module _ (H : List ℕ → List ℕ) (composed : List ℕ → Bool) where
   unfolding sent
   sent-order es b l out =
       linked says (λ p. p .answer) (λ p. p .answer .number ≡ accepted) (sentTests es out)
-      (record { answer = taken (length (slipOf es)) b l; bytes = over (slipOf es) out }) (roomCase es (length out) ∷ []) (
+      (record { answer = taken (length (slipOf es)) b l; left = over (slipOf es) out }) (roomCase es (length out) ∷ []) (
         λ e. (0, 0, (refl, refl, ltb-true (length out) (length (slipOf es)) e), refl),
         λ e. (free (λ h. omega (arith, h, ltb-false (length out) (length (slipOf es)) e)), refl),
       )
 
-  sent-kept : (es : List Entry) (b : ℕ) (l out : List ℕ) → Refuses (sent es b l out .answer) → sent es b l out .bytes ≡ out
+  sent-kept : (es : List Entry) (b : ℕ) (l out : List ℕ) → Refuses (sent es b l out .answer) → sent es b l out .left ≡ out
   unfolding sent
   sent-kept es b l out =
-      chain-each (λ p. Refuses (p .answer) → p .bytes ≡ out) (sentTests es out)
-      (record { answer = taken (length (slipOf es)) b l; bytes = over (slipOf es) out }) (λ e h. refl, λ e h. absurd (h refl))
+      chain-each (λ p. Refuses (p .answer) → p .left ≡ out) (sentTests es out)
+      (record { answer = taken (length (slipOf es)) b l; left = over (slipOf es) out }) (λ e h. refl, λ e h. absurd (h refl))
 
   -- "12, 11"
   pruned-order : (counts list : List ℕ) (n : Node) (out : List ℕ)
@@ -530,15 +530,15 @@ module _ (H : List ℕ → List ℕ) (composed : List ℕ → Bool) where
             (λ k. sent-order (rows m) (blocks H m) (label H m) out),
       )
 
-  pruned-kept : (counts list : List ℕ) (n : Node) (out : List ℕ) → Refuses (prunedOf H counts list n out .answer) → prunedOf H counts list n out .bytes ≡ out
+  pruned-kept : (counts list : List ℕ) (n : Node) (out : List ℕ) → Refuses (prunedOf H counts list n out .answer) → prunedOf H counts list n out .left ≡ out
   unfolding prunedOf
   pruned-kept counts list n out =
       let m : Node = pruned H list n in
-      chain-each (λ p. Refuses (p .answer) → p .bytes ≡ out) (listTests counts list out) (sentTree H m out)
+      chain-each (λ p. Refuses (p .answer) → p .left ≡ out) (listTests counts list out) (sentTree H m out)
       (λ e h. refl, λ e. sent-kept (rows m) (blocks H m) (label H m) out)
 
   -- the pruner
-  pub prune-stated : (s list out : List ℕ) → Leaves pruneNumbers (pruneCases H composed s list (length out)) out (pruneOf H composed s list out)
+  pub prune-stated : (s list out : List ℕ) → StatedOutcome pruneNumbers (pruneCases H composed s list (length out)) out (pruneOf H composed s list out)
   unfolding pruneOf
   prune-stated s list out =
       let a : Answer = checkOf H composed s in
@@ -559,7 +559,7 @@ module _ (H : List ℕ → List ℕ) (composed : List ℕ → Bool) where
                   (list-listed (among pruneNumbers) refl counts 0 0 list) refl);
             };
         kept =
-            chain-each (λ p. Refuses (p .answer) → p .bytes ≡ out) (slipTests a out) (prunedOf H counts list (slipTree s) out)
+            chain-each (λ p. Refuses (p .answer) → p .left ≡ out) (slipTests a out) (prunedOf H counts list (slipTree s) out)
             (λ e h. refl, λ e. pruned-kept counts list (slipTree s) out);
       }
 
@@ -593,11 +593,11 @@ module _ (H : List ℕ → List ℕ) (composed : List ℕ → Bool) where
       again Q x (inr g) =
           inr (free (λ h. g .0 0 0 (refl, refl, subst (λ (n : Node). length out < length (slipOf (rows n))) (ok-inj (sym (h .1) ∙ e)) (h .2))), g .1)
 
-  joined-kept : (a b : Node) (out : List ℕ) (j : Joint) → Refuses (joinedOf H a b out j .answer) → joinedOf H a b out j .bytes ≡ out
+  joined-kept : (a b : Node) (out : List ℕ) (j : Joint) → Refuses (joinedOf H a b out j .answer) → joinedOf H a b out j .left ≡ out
   unfolding joinedOf
   joined-kept a b out (clash p) h = refl
   joined-kept a b out (ok c) h =
-      chain-each (λ x. Refuses (x .answer) → x .bytes ≡ out) (largeTests c out) (sentTree H c out)
+      chain-each (λ x. Refuses (x .answer) → x .left ≡ out) (largeTests c out) (sentTree H c out)
       (λ l h. refl, λ l. sent-kept (rows c) (blocks H c) (label H c) out) h
 
   -- one of two slips refused, or passed
@@ -645,7 +645,7 @@ module _ (H : List ℕ → List ℕ) (composed : List ℕ → Bool) where
             ),
       )
 
-  pub join-stated : (s u out : List ℕ) → Leaves joinNumbers (joinCases H composed s u (length out)) out (joinOf H composed s u out)
+  pub join-stated : (s u out : List ℕ) → StatedOutcome joinNumbers (joinCases H composed s u (length out)) out (joinOf H composed s u out)
   unfolding joinOf
   join-stated s u out =
       let sub : (k : ℕ) → among slipNumbers k ≡ true → among joinNumbers k ≡ true = among-more slipNumbers (rootsDiffer ∷ clashing ∷ joinTooLarge ∷ noRoom ∷ []) in
@@ -660,7 +660,7 @@ module _ (H : List ℕ → List ℕ) (composed : List ℕ → Bool) where
                   (on-listed (among joinNumbers) 2 (slipCases H composed u) (slip-listed (among joinNumbers) sub u)) refl);
             };
         kept =
-            chain-each (λ p. Refuses (p .answer) → p .bytes ≡ out) (map (leaving out) (bothTests (checkOf H composed s) (checkOf H composed u)))
+            chain-each (λ p. Refuses (p .answer) → p .left ≡ out) (map (leaving out) (bothTests (checkOf H composed s) (checkOf H composed u)))
             (joinedOf H (slipTree s) (slipTree u) out (join H (slipTree s) (slipTree u))) (
               λ e h. refl,
               λ e. (λ d h. refl, λ d. (λ l h. refl, λ l. joined-kept (slipTree s) (slipTree u) out (join H (slipTree s) (slipTree u)))),

@@ -23,11 +23,11 @@ use Rattle.titles.specs.Compose as Titles
 use Rattle.unicode.specs.Utf8.{encodes, decode}
 use Rattle.unicode.specs.Repertoire.{allPlain, allIn}
 use Rattle.unicode.specs.Nfc.{nfc}
-use Rattle.titles.specs.Compose.{composedText, acceptedWith, outcome}
+use Rattle.titles.specs.Compose.{composedText, acceptedWith, composeOf}
 use Rattle.titles.specs.Titles.{title-nfc, accepted-nfc, equal-nfc}
 use Rattle.slips.specs.Answers.{taken}
 use Rattle.slips.specs.Check.{countOf, checkOf}
-use Rattle.slips.specs.Output.{over}
+use Rattle.outcomes.specs.Outcome.{over}
 use Rattle.pack.specs.Pack.{answerOf, packOf}
 use Rattle.unpack.specs.Unpack.{tableIn, tableOf, unpackOf}
 use Rattle.unpack.specs.UnpackLaws.{Room}
@@ -82,7 +82,7 @@ pub record TableLabelled (t : Table) (out : List ℕ) : Type 0 where
   pub room : length (slipOf (rows tree)) ≤ length out
   pub outcome :
       packOf Sha256.label composedText t out
-      ≡ record { answer = taken (length (slipOf (rows tree))) (blocks Sha256.label tree) (label Sha256.label tree); bytes = over (slipOf (rows tree)) out }
+      ≡ record { answer = taken (length (slipOf (rows tree))) (blocks Sha256.label tree) (label Sha256.label tree); left = over (slipOf (rows tree)) out }
 
 pub table-labels : (t : Table) (out : List ℕ) → packOf Sha256.label composedText t out .answer .number ≡ accepted → TableLabelled t out
 unfolding packOf
@@ -103,18 +103,18 @@ table-labels-told n room w = pack-tree Sha256.label composedText n room w
 
 -- "A title is stored in the composed form of Unicode (NFC) within our repertoire": what is accepted has all its characters in the repertoire,
 -- where `nfc` is Unicode's, and is written in NFC
-pub nfc-stored : (title out : List ℕ) → outcome title out .answer .number ≡ accepted
-    → (allIn (decode title) ≡ true) × (allPlain (nfc (decode title)) ≡ true) × (outcome title out ≡ acceptedWith (encodes (nfc (decode title))) out)
+pub nfc-stored : (title out : List ℕ) → composeOf title out .answer .number ≡ accepted
+    → (allIn (decode title) ≡ true) × (allPlain (nfc (decode title)) ≡ true) × (composeOf title out ≡ acceptedWith (encodes (nfc (decode title))) out)
 nfc-stored title out e = accepted-nfc title out e
 
 -- a title of the repertoire, within the limit, whose NFC is composed text is accepted where that has room
 pub nfc-accepted : (title out : List ℕ) → length title ≤ Titles.maxBytes → allIn (decode title) ≡ true → allPlain (nfc (decode title)) ≡ true
-    → length (encodes (nfc (decode title))) ≤ length out → outcome title out ≡ acceptedWith (encodes (nfc (decode title))) out
+    → length (encodes (nfc (decode title))) ≤ length out → composeOf title out ≡ acceptedWith (encodes (nfc (decode title))) out
 nfc-accepted title out under known plain room = title-nfc title out under known plain room
 
 -- so É as one letter and as E and a mark are stored alike
 pub nfc-alike : (x y out : List ℕ) → length x ≤ Titles.maxBytes → length y ≤ Titles.maxBytes → allIn (decode y) ≡ true
-    → nfc (decode x) ≡ nfc (decode y) → outcome x out .answer .number ≡ accepted → outcome y out ≡ outcome x out
+    → nfc (decode x) ≡ nfc (decode y) → composeOf x out .answer .number ≡ accepted → composeOf y out ≡ composeOf x out
 nfc-alike x y out ux uy known e z = equal-nfc x y out ux uy known e z
 
 -- "A table packed and unpacked is the same table": what the packer writes, unpacked into buffers with room, gives the packer's answer, and
@@ -133,8 +133,8 @@ packing-checks t out bytes e = written-checks Sha256.label composedText t out by
 -- values, packed where the slip has room
 pub slip-same : (s : List ℕ) → Below 256 s → (b : Table) → unpackOf Sha256.label composedText s b .answer .number ≡ accepted
     → (out : List ℕ) → length s ≤ length out
-    → packOf Sha256.label composedText (tableIn (countOf s) (unpackOf Sha256.label composedText s b .buffers)) out
-    ≡ record { answer = unpackOf Sha256.label composedText s b .answer; bytes = over s out }
+    → packOf Sha256.label composedText (tableIn (countOf s) (unpackOf Sha256.label composedText s b .left)) out
+    ≡ record { answer = unpackOf Sha256.label composedText s b .answer; left = over s out }
 slip-same s bytes b e out room = slip-again Sha256.label composedText s bytes b e out room
 
 -- "Pruning keeps the root label": what is written is the slip of the tree cut at the named nodes, with the same label, and never longer

@@ -15,7 +15,8 @@ use Rattle.trees.specs.Rows.{rows, number}
 use Rattle.outcomes.specs.Refusals.{accepted, noRoom, joinTooLarge, clashing}
 use Rattle.codec.specs.Writing.{slipOf}
 use Rattle.slips.specs.Check.{checkOf}
-use Rattle.slips.specs.Output.{Packed}
+use Rattle.outcomes.specs.Outcome.{Output}
+use Rattle.slips.specs.declared.answer.Answer.{Answer}
 use Rattle.slips.specs.SlipTree.{slipTree}
 use Rattle.join_tables.specs.Joined.{clashed}
 use Rattle.join.specs.Join.{joinOf}
@@ -44,12 +45,12 @@ abbrev pub clashes : ℕ → Bool
 clashes k = eqb k clashing
 
 -- what is held after a join's outcome, where c was: the bytes written if it is accepted, else the same
-abbrev pub keeps : Packed → List ℕ → List ℕ
-keeps p c = cond (eqb (p .answer .number) accepted) (take (p .answer .length) (p .bytes)) c
+abbrev pub keeps : Output Answer → List ℕ → List ℕ
+keeps p c = cond (eqb (p .answer .number) accepted) (take (p .answer .length) (p .left)) c
 
 module _ (H : List ℕ → List ℕ) (composed : List ℕ → Bool) where
   -- the join's outcome, where c is held
-  abbrev pub outcome : List ℕ → Arrival → Packed
+  abbrev pub outcome : List ℕ → Arrival → Output Answer
   outcome c a = joinOf H composed c (a .slip) (a .buffer)
 
   -- what is held then

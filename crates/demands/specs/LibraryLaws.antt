@@ -30,7 +30,7 @@ use Rattle.codec.specs.SlipLaws.{below-slipOf}
 use Rattle.slips.specs.declared.answer.Answer.{Answer}
 use Rattle.slips.specs.Answers.{refused, taken}
 use Rattle.slips.specs.Check.{checkOf}
-use Rattle.slips.specs.Output.{over, Packed, still}
+use Rattle.outcomes.specs.Outcome.{over, Output, still}
 use Rattle.slips.specs.SlipTrees.{SlipOf, check-complete, check-unique}
 use Rattle.slips.specs.SlipTree.{slipTree}
 use Rattle.slips.specs.SlipTreeLaws.{slip-tree}
@@ -43,7 +43,7 @@ use Rattle.demands.specs.Library.{Arrival, start, Reached, misfits, keep
 use Rattle.demands.specs.Library as Library
 
 -- an accepted join's bytes are held, and no others; after a refusal the same are
-keeps-written : (c w out l : List ℕ) (b : ℕ) → keeps (record { answer = taken (length w) b l; bytes = over w out }) c ≡ w
+keeps-written : (c w out l : List ℕ) (b : ℕ) → keeps (record { answer = taken (length w) b l; left = over w out }) c ≡ w
 keeps-written c w out l b = take-at w (drop (length w) out) (length w) refl
 
 keeps-refused : (c out : List ℕ) (q : Answer) → (q .number ≡ accepted → ⊥) → keeps (still q out) c ≡ c
@@ -121,7 +121,7 @@ module _ (H : List ℕ → List ℕ) (composed : List ℕ → Bool) (l : List �
       ap (λ (t : Bool). readAs t a) (is-ours a o) ∙ ap some (slip-tree H composed (a .slip) b x)
 
   -- what is held after an arrival a whose outcome is p, where the tree held gets the reply v; and what the answer says
-  pub record StepsBy (c : List ℕ) (n : Node) (a : Arrival) (v : Reply) (p : Packed) : Type 0 where
+  pub record StepsBy (c : List ℕ) (n : Node) (a : Arrival) (v : Reply) (p : Output Answer) : Type 0 where
     pub stands : Stands (keeps p c) (held n v)
     pub misfit-said : isMisfit v ≡ true → misfits (p .answer .number) ≡ true
     pub clash-said : (q : Place) → v ≡ shown q → p .answer ≡ clashed (number n q) (number (slipTree (a .slip)) q)
@@ -161,7 +161,7 @@ module _ (H : List ℕ → List ℕ) (composed : List ℕ → Bool) (l : List �
         → SlipOf H composed (slipOf (rows d)) d → (t : Bool)
         → StepsBy c n a (cond (cond (tooLarge d) false (not t)) (took d) misfit)
         (cond t (still (refused noRoom 0) (a .buffer))
-        (record { answer = taken (length (slipOf (rows d))) (blocks H d) (label H d); bytes = over (slipOf (rows d)) (a .buffer) }))
+        (record { answer = taken (length (slipOf (rows d))) (blocks H d) (label H d); left = over (slipOf (rows d)) (a .buffer) }))
     by-room b d y alike e x true =
         rw (not-large d x) (refusing misfit (refused noRoom 0) (λ f. omega (arith, f)) refl (λ f. refl) (λ p f. absurd (never-shown misfit p refl f)))
     by-room b d y alike e x false =

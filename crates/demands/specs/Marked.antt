@@ -9,12 +9,12 @@ use Rattle.trees.specs.Rows.{node, tip}
 use Rattle.outcomes.specs.Refusals.{cutShort, otherEdition, noNodes, badPadding, notUtf8, outsideRepertoire, looseMark}
 use Rattle.codec.specs.Reading.{readValue, readLeaf, readRest, readOne, readAll}
 use Rattle.codec.specs.Writing.{leafBits, entryBits, allBits, slipBits, slipOf}
-use Rattle.titles.specs.Compose.{outcome, refusal, refusedWith, acceptedWith}
+use Rattle.outcomes.specs.Outcome.{still}
+use Rattle.titles.specs.Compose.{composeOf, refusal, acceptedWith}
 use Rattle.titles.specs.Cases.{loose, whole, loose-composes, whole-itself, empty-empty, mark-alone, second-mark, cut-short, control}
 use Rattle.slips.specs.Answers.{refused, taken}
 use Rattle.slips.specs.Check.{paddingFits, settled, headerOf, bodyOf, checkOf}
 use Rattle.slips.specs.Cases.{bare, bare-accepted, bare-padding-set, bare-cut, no-nodes, other-edition, no-bytes}
-use Rattle.slips.specs.Output.{still}
 use Rattle.join_tables.specs.Joined.{clashed, joinedOf}
 use Rattle.join.specs.Join.{joinOf}
 use Rattle.label_cases.specs.Values.{copies}
@@ -31,8 +31,8 @@ pub data Line : Type 0 where
 -- and a label, or refused, whatever the label function; two slips clash at two entries under "a label of 32 copies of prelabel length
 -- modulo 256"
 abbrev pub Says : Line → Type 0
-Says (composes title bytes) = (out : List ℕ) → length bytes ≤ length out → outcome title out ≡ acceptedWith bytes out
-Says (untitled title k p) = (out : List ℕ) → outcome title out ≡ refusedWith (refusal k p) out
+Says (composes title bytes) = (out : List ℕ) → length bytes ≤ length out → composeOf title out ≡ acceptedWith bytes out
+Says (untitled title k p) = (out : List ℕ) → composeOf title out ≡ still (refusal k p) out
 Says (accepts slip b l) = (H : List ℕ → List ℕ) (composed : List ℕ → Bool) → checkOf H composed slip ≡ taken (length slip) b l
 Says (refuses slip k p) = (H : List ℕ → List ℕ) (composed : List ℕ → Bool) → checkOf H composed slip ≡ refused k p
 Says (clashing s u i j) = (composed : List ℕ → Bool) (out : List ℕ) → joinOf copies composed s u out ≡ still (clashed i j) out

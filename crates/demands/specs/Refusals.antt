@@ -20,10 +20,10 @@ use Rattle.tables.specs.Cells.{countCell}
 use Rattle.tables.specs.PruningList.{pruned}
 use Rattle.slips.specs.declared.answer.Answer.{Answer}
 use Rattle.slips.specs.Check.{headerBits, editionOf, countOf, readingOf, paddingFits}
-use Rattle.slips.specs.Output.{Packed}
+use Rattle.outcomes.specs.Outcome.{Outcome}
 use Rattle.slips.specs.SlipTree.{slipTree}
 use Rattle.pack.specs.Pack.{rowsOf}
-use Rattle.unpack.specs.Unpack.{Unpacked, lacksRoom, tableOf}
+use Rattle.unpack.specs.Unpack.{lacksRoom, tableOf}
 use Rattle.join_tables.specs.Joined.{tooLarge}
 use Rattle.demands.specs.InOrder.{Case, at, plain, on, among, InOrder}
 
@@ -40,15 +40,10 @@ pub record Stated (numbers : List ℕ) (cases : List Case) (a : Answer) : Type 0
 abbrev pub Refuses : Answer → Type 0
 Refuses a = a .number ≡ accepted → ⊥
 
--- the same of a call with one output, which stays as it was where the call refuses
-pub record Leaves (numbers : List ℕ) (cases : List Case) (out : List ℕ) (p : Packed) : Type 0 where
-  pub stated : Stated numbers cases (p .answer)
-  pub kept : Refuses (p .answer) → p .bytes ≡ out
-
--- and of the unpacker
-pub record Hands (numbers : List ℕ) (cases : List Case) (b : Table) (u : Unpacked) : Type 0 where
-  pub stated : Stated numbers cases (u .answer)
-  pub kept : Refuses (u .answer) → u .buffers ≡ b
+-- the same of a call with buffers, which stay as they were where the call refuses
+pub record StatedOutcome {B : Type 0} (numbers : List ℕ) (cases : List Case) (b : B) (o : Outcome Answer B) : Type 0 where
+  pub stated : Stated numbers cases (o .answer)
+  pub kept : Refuses (o .answer) → o .left ≡ b
 
 -- "one tree with a root of type 0"
 abbrev pub OneTree : List Node → Type 0

@@ -16,7 +16,8 @@ use Rattle.outcomes.specs.Refusals.{accepted, noRoom, titleLong, notUtf8, outsi
 use Rattle.unicode.specs.Utf8.{ill, width, decode}
 use Rattle.unicode.specs.Repertoire.{isMark}
 use Rattle.unicode.specs.Joining.{Piece, bad, one, two, joined, pieces, noneBad, accepts}
-use Rattle.titles.specs.Compose.{text, fault, refusal, judged, Outcome, acceptedWith, outcomeTests, outcome, maxBytes}
+use Rattle.outcomes.specs.Outcome.{Output}
+use Rattle.titles.specs.Compose.{text, fault, refusal, judged, acceptedWith, composeTests, composeOf, maxBytes}
 use Rattle.titles.specs.Outcomes.{judged-accepts}
 use Rattle.titles.specs.declared.composed.Composed.{Composed}
 use Rattle.demands.specs.InOrder.{Case, at, plain, Free, among, InOrder}
@@ -44,10 +45,10 @@ abbrev pub composeNumbers : List ℕ
 composeNumbers = titleLong ∷ notUtf8 ∷ outsideRepertoire ∷ looseMark ∷ noRoom ∷ []
 
 -- an answer of the composer, and what the buffer holds
-pub record Ordered (title out : List ℕ) (o : Outcome) : Type 0 where
+pub record Ordered (title out : List ℕ) (o : Output Composed) : Type 0 where
   pub order : InOrder says (composeCases title (length out)) (o .answer .number ≡ accepted) (o .answer)
   pub listed : all (λ (c : Case). among composeNumbers (c .number)) (composeCases title (length out)) ≡ true
-  pub kept : (o .answer .number ≡ accepted → ⊥) → o .bytes ≡ out
+  pub kept : (o .answer .number ≡ accepted → ⊥) → o .left ≡ out
 
 judged-order : (p n : ℕ) (ps : List Piece) → InOrder says (characterCases p ps) (judged p n ps .number ≡ accepted) (judged p n ps)
 unfolding judged fault
@@ -83,13 +84,13 @@ fits-length : (title : List ℕ) → ltb maxBytes (length title) ≡ false → F
 fits-length title e = free (λ h. omega (arith, h, ltb-false maxBytes (length title) e))
 
 -- "17, then the first bad character, 18 before 19 before 20 there, then 11": the composer's answer is in order, and a refusal leaves the buffer
-pub compose-in-order : (title out : List ℕ) → Ordered title out (outcome title out)
-unfolding outcome accepts
+pub compose-in-order : (title out : List ℕ) → Ordered title out (composeOf title out)
+unfolding composeOf accepts
 compose-in-order title out =
     let good : Bool = accepts (decode title) in
     record {
       order =
-          chain-each (λ o. InOrder says (composeCases title (length out)) (o .answer .number ≡ accepted) (o .answer)) (outcomeTests title out)
+          chain-each (λ o. InOrder says (composeCases title (length out)) (o .answer .number ≡ accepted) (o .answer)) (composeTests title out)
           (acceptedWith (text title) out) (
             λ l. inl (0, 0, (refl, refl, ltb-true maxBytes (length title) l), refl),
             λ l. (
@@ -116,6 +117,6 @@ compose-in-order title out =
           all-append (λ (c : Case). among composeNumbers (c .number)) (characterCases 0 (pieces (decode title))) _
           (characters-listed 0 (pieces (decode title))) refl;
       kept =
-          chain-each (λ o. (o .answer .number ≡ accepted → ⊥) → o .bytes ≡ out) (outcomeTests title out) (acceptedWith (text title) out)
+          chain-each (λ o. (o .answer .number ≡ accepted → ⊥) → o .left ≡ out) (composeTests title out) (acceptedWith (text title) out)
           (λ l h. refl, λ l. (λ g h. refl, λ g. (λ r h. refl, λ r h. absurd (h refl))));
     }

@@ -5,7 +5,8 @@ use mathlib.Core.List.{List}
 use mathlib.Core.Path.{_≡_, refl, sym, _∙_}
 use lib.Dec.{eqb}
 use Rattle.outcomes.specs.Refusals.{accepted, noRoom, titleLong, notUtf8, outsideRepertoire, looseMark}
-use Rattle.titles.specs.Compose.{Outcome, outcome}
+use Rattle.outcomes.specs.Outcome.{Output}
+use Rattle.titles.specs.Compose.{composeOf}
 use Rattle.titles.specs.Goes.{Wrong, broken, foreign, loose, FirstBad, Goes, long, wrong, short, taken}
 use Rattle.titles.specs.GoesLaws.{compose-goes}
 use Rattle.titles.specs.declared.composed.Composed.{Composed}
@@ -30,7 +31,7 @@ told (broken f) = (refl, refl)
 told (foreign c r h e o) = (refl, refl)
 told (loose c r h m) = (refl, refl)
 
-stated : {title out : List ℕ} {o : Outcome} → Goes title out o → (o .answer .number ≡ accepted → ⊥) → Stated title (o .answer) × (o .bytes ≡ out)
+stated : {title out : List ℕ} {o : Output Composed} → Goes title out o → (o .answer .number ≡ accepted → ⊥) → Stated title (o .answer) × (o .left ≡ out)
 stated (long p) h = (record { number = refl; place = λ d. refl; character = λ d. absurd (false≢true d); length = refl }, refl)
 stated (wrong u k p b) h = (
   record {
@@ -44,6 +45,6 @@ stated (wrong u k p b) h = (
 stated (short u a s) h = (record { number = refl; place = λ d. refl; character = λ d. absurd (false≢true d); length = refl }, refl)
 stated (taken u a r) h = absurd (h refl)
 
-pub compose-stated : (title out : List ℕ) → (outcome title out .answer .number ≡ accepted → ⊥)
-    → Stated title (outcome title out .answer) × (outcome title out .bytes ≡ out)
+pub compose-stated : (title out : List ℕ) → (composeOf title out .answer .number ≡ accepted → ⊥)
+    → Stated title (composeOf title out .answer) × (composeOf title out .left ≡ out)
 compose-stated title out h = stated (compose-goes title out) h

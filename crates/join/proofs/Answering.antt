@@ -17,7 +17,7 @@ use Rattle.slips.specs.declared.header.Header.{Header}
 use Rattle.slips.specs.Answers.{refused}
 use Rattle.slips.specs.Check.{headerOf, bodyOf, checkOf}
 use Rattle.slips.specs.HeaderLaws.{header-told, check-refused, check-body}
-use Rattle.slips.specs.Output.{Packed, Packs, still}
+use Rattle.outcomes.specs.Outcome.{Output, Leaves, still}
 use Rattle.slips.specs.SlipTree.{slipTree}
 use Rattle.both_slips.specs.Both.{sided, bothOf}
 use Rattle.both_slips.specs.BothLaws.{bothBy, both-told}
@@ -57,30 +57,30 @@ module _ (H : List ℕ → List ℕ) (composed : List ℕ → Bool) where
 module _ (H : List ℕ → List ℕ) (composed : List ℕ → Bool) (s u out : List ℕ) where
   -- "first slip (side 1)"
   pub join-first : {r : Answer} → (checkOf H composed s .number ≡ accepted → ⊥) → r ≡ sided 1 (checkOf H composed s)
-      → Packs (joinOf H composed s u out) r out
+      → Leaves (joinOf H composed s u out) r out
   unfolding joinOf
   join-first h e = rw (ne-eqb (checkOf H composed s .number) accepted h) (record { answered = e; written = refl })
 
   pub head-first : {h : Header} {r : Answer} → h ≡ headerOf s → (h .number ≡ accepted → ⊥) → r ≡ sided 1 (refused (h .number) 0)
-      → Packs (joinOf H composed s u out) r out
+      → Leaves (joinOf H composed s u out) r out
   head-first e n g = let x = refused-head H composed s e n in join-first (x .0) (g ∙ ap (sided 1) (x .1))
 
   module _ (p : checkOf H composed s .number ≡ accepted) where
     -- "second slip (side 2)"
     pub join-second : {r : Answer} → (checkOf H composed u .number ≡ accepted → ⊥) → r ≡ sided 2 (checkOf H composed u)
-        → Packs (joinOf H composed s u out) r out
+        → Leaves (joinOf H composed s u out) r out
     unfolding joinOf
     join-second h e =
         rw (eq-eqb (checkOf H composed s .number) accepted p, ne-eqb (checkOf H composed u .number) accepted h)
         (record { answered = e; written = refl })
 
     pub head-second : {h : Header} {r : Answer} → h ≡ headerOf u → (h .number ≡ accepted → ⊥) → r ≡ sided 2 (refused (h .number) 0)
-        → Packs (joinOf H composed s u out) r out
+        → Leaves (joinOf H composed s u out) r out
     head-second e n g = let x = refused-head H composed u e n in join-second (x .0) (g ∙ ap (sided 2) (x .1))
 
   -- behind the headers, the bodies decide
   module _ (p : headerOf s .number ≡ accepted) (q : headerOf u .number ≡ accepted) where
-    joinBy : Answer → Answer → Packed
+    joinBy : Answer → Answer → Output Answer
     joinBy a b =
         cond (not (eqb (a .number) accepted)) (still (sided 1 a) out)
         (cond (not (eqb (b .number) accepted)) (still (sided 2 b) out)
@@ -92,7 +92,7 @@ module _ (H : List ℕ → List ℕ) (composed : List ℕ → Bool) (s u out : L
     by-bodies = ap₂ joinBy (check-body H composed s p) (check-body H composed u q)
 
     -- a refusal by the outcomes of the tests leaves the output
-    refused-by : (one two differ : Bool) (a b : Answer) (x : Packed) → (bothBy one two differ a b .number ≡ accepted → ⊥)
+    refused-by : (one two differ : Bool) (a b : Answer) (x : Output Answer) → (bothBy one two differ a b .number ≡ accepted → ⊥)
         → (one ≡ false → two ≡ false → differ ≡ false → a .number ≡ accepted)
         → still (bothBy one two differ a b) out ≡ cond one (still (sided 1 a) out) (cond two (still (sided 2 b) out) (cond differ (still (refused rootsDiffer 0) out) x))
     unfolding bothBy
@@ -103,7 +103,7 @@ module _ (H : List ℕ → List ℕ) (composed : List ℕ → Bool) (s u out : L
 
     -- a slip refused, or 13
     pub join-refused : {r : Answer} → r ≡ bothOf (bodyOf H composed s) (bodyOf H composed u) → (r .number ≡ accepted → ⊥)
-        → Packs (joinOf H composed s u out) r out
+        → Leaves (joinOf H composed s u out) r out
     unfolding bothOf bothBy joinBy
     join-refused {r = r} e h =
         let a : Answer = bodyOf H composed s in
@@ -112,15 +112,15 @@ module _ (H : List ℕ → List ℕ) (composed : List ℕ → Bool) (s u out : L
         refused-by (not (eqb (a .number) accepted)) (not (eqb (b .number) accepted)) (not (same (a .label) (b .label))) a b
         (joinedOf H (slipTree s) (slipTree u) out (join H (slipTree s) (slipTree u))) (λ n. h (ap (λ (x : Answer). x .number) e ∙ n))
         (λ n m l. eqb-true (a .number) accepted (not-false (eqb (a .number) accepted) n)) ∙ by-bodies in
-        subst (λ (x : Packed). Packs x r out) k (record { answered = e; written = refl })
+        subst (λ (x : Output Answer). Leaves x r out) k (record { answered = e; written = refl })
 
     -- neither refused: the join of the trees decides
     pub join-merged : {r : Answer} {left : List ℕ} → bothOf (bodyOf H composed s) (bodyOf H composed u) .number ≡ accepted
-        → Packs (joinedOf H (slipTree s) (slipTree u) out (join H (slipTree s) (slipTree u))) r left → Packs (joinOf H composed s u out) r left
+        → Leaves (joinedOf H (slipTree s) (slipTree u) out (join H (slipTree s) (slipTree u))) r left → Leaves (joinOf H composed s u out) r left
     unfolding joinBy
     join-merged {r = r} {left = left} e m =
         let a : Answer = bodyOf H composed s in
         let b : Answer = bodyOf H composed u in
         let t = both-told a b e in
-        subst (λ (x : Packed). Packs x r left) by-bodies
+        subst (λ (x : Output Answer). Leaves x r left) by-bodies
         (rw (eq-eqb (a .number) accepted (t .one), eq-eqb (b .number) accepted (t .two), t .alike) m)

@@ -7,18 +7,18 @@ use Rattle.outcomes.specs.Chain.{chain}
 use Rattle.trees.specs.Join.{join}
 use Rattle.slips.specs.declared.answer.Answer.{Answer}
 use Rattle.slips.specs.Check.{checkOf}
-use Rattle.slips.specs.Output.{Packed, still}
+use Rattle.outcomes.specs.Outcome.{Output, still}
 use Rattle.slips.specs.SlipTree.{slipTree}
 use Rattle.both_slips.specs.Both.{bothTests}
 use Rattle.join_tables.specs.Joined.{joinedOf}
 
 -- a test that refuses leaves the output
-abbrev pub leaving : List ℕ → Bool × Answer → Bool × Packed
+abbrev pub leaving : List ℕ → Bool × Answer → Bool × Output Answer
 leaving out t = (t .0, still (t .1) out)
 
 module _ (H : List ℕ → List ℕ) (composed : List ℕ → Bool) where
   -- the join of two slips into an output
-  unfoldable pub joinOf : List ℕ → List ℕ → List ℕ → Packed
+  unfoldable pub joinOf : List ℕ → List ℕ → List ℕ → Output Answer
   joinOf s u out =
       chain (map (leaving out) (bothTests (checkOf H composed s) (checkOf H composed u)))
       (joinedOf H (slipTree s) (slipTree u) out (join H (slipTree s) (slipTree u)))

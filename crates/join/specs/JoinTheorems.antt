@@ -21,7 +21,8 @@ use Rattle.outcomes.specs.Refusals.{accepted, rootsDiffer, joinTooLarge}
 use Rattle.codec.specs.Writing.{slipOf}
 use Rattle.slips.specs.Answers.{refused}
 use Rattle.slips.specs.Check.{checkOf}
-use Rattle.slips.specs.Output.{over, Packed, still}
+use Rattle.outcomes.specs.Outcome.{over, Output, still}
+use Rattle.slips.specs.declared.answer.Answer.{Answer}
 use Rattle.slips.specs.SlipTrees.{SlipOf, check-complete}
 use Rattle.slips.specs.SlipTree.{slipTree}
 use Rattle.slips.specs.SlipTreeLaws.{slip-tree}
@@ -149,7 +150,7 @@ module _ (H : List ℕ → List ℕ) (composed : List ℕ → Bool) where
 
   -- a slip joined with itself is itself
   pub join-self : (s out : List ℕ) (a : Node) → SlipOf H composed s a → length s ≤ length out
-      → joinOf H composed s s out ≡ record { answer = checkOf H composed s; bytes = over s out }
+      → joinOf H composed s s out ≡ record { answer = checkOf H composed s; left = over s out }
   unfolding joinedOf sent
   join-self s out a x room =
       let fits : tooLarge a ≡ false =
@@ -159,7 +160,7 @@ module _ (H : List ℕ → List ℕ) (composed : List ℕ → Bool) where
       ∙ rw (fits, sym (x .is), le-ltb (length out) (length s) room, check-complete H composed s a x) refl
 
   -- "the same bytes or both 14": two outcomes are one, or two clashes with the entries in turn
-  pub data Either (out : List ℕ) (x y : Packed) : Type 0 where
+  pub data Either (out : List ℕ) (x y : Output Answer) : Type 0 where
     one : x ≡ y → Either out x y
     both-clash : (i j : ℕ) → x ≡ still (clashed i j) out → y ≡ still (clashed j i) out → Either out x y
 

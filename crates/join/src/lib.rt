@@ -17,7 +17,7 @@ ghost use Rattle.trees.specs.Rules.{maxBytes, maxNodes};
 ghost use Rattle.sha2.specs.Sha256 as Sha256;
 ghost use Rattle.titles.specs.Compose.{composedText};
 ghost use Rattle.tables.specs.Areas.{smallBytes, smallNodes};
-ghost use Rattle.slips.specs.Output.{Packs};
+ghost use Rattle.outcomes.specs.Outcome.{Leaves};
 ghost use Rattle.both_slips.specs.Contracts.{Headed, BothAsks};
 ghost use Rattle.join.specs.Join.{joinOf};
 
@@ -35,7 +35,7 @@ fn join_in(
     out: &mut [u8],
 ) -> Answer
     requires { ⌜ BothAsks (now s) n (now u) m (now types) (now counts) (now lengths) (now values) (now labels) × (length (now values) ≤ 2 * maxBytes) ⌝ }
-    ensures { λ r. ⌜ Packs (joinOf Sha256.label composedText (now (s .entry)) (now (u .entry)) (now (out .entry))) r (now (out .exit)) ⌝ }
+    ensures { λ r. ⌜ Leaves (joinOf Sha256.label composedText (now (s .entry)) (now (u .entry)) (now (out .entry))) r (now (out .exit)) ⌝ }
 {
     let p = both_slips::hold_both(s, n, u, m, types, counts, lengths, values, labels);
     if p.answer.number != Refusal::ACCEPTED {
@@ -58,7 +58,7 @@ fn join_in(
 // In areas for two slips of at most 1,024 bytes and 64 nodes each.
 fn small(s: &[u8], n: usize, u: &[u8], m: usize, out: &mut [u8]) -> Answer
     requires { ⌜ Headed (now s) n smallBytes smallNodes × Headed (now u) m smallBytes smallNodes ⌝ }
-    ensures { λ r. ⌜ Packs (joinOf Sha256.label composedText (now (s .entry)) (now (u .entry)) (now (out .entry))) r (now (out .exit)) ⌝ }
+    ensures { λ r. ⌜ Leaves (joinOf Sha256.label composedText (now (s .entry)) (now (u .entry)) (now (out .entry))) r (now (out .exit)) ⌝ }
 {
     let mut types = [0u16; SmallPair::ROWS];
     let mut counts = [0u16; SmallPair::ROWS];
@@ -82,7 +82,7 @@ fn small(s: &[u8], n: usize, u: &[u8], m: usize, out: &mut [u8]) -> Answer
 // In areas for any two slips.
 fn large(s: &[u8], n: usize, u: &[u8], m: usize, out: &mut [u8]) -> Answer
     requires { ⌜ Headed (now s) n maxBytes maxNodes × Headed (now u) m maxBytes maxNodes ⌝ }
-    ensures { λ r. ⌜ Packs (joinOf Sha256.label composedText (now (s .entry)) (now (u .entry)) (now (out .entry))) r (now (out .exit)) ⌝ }
+    ensures { λ r. ⌜ Leaves (joinOf Sha256.label composedText (now (s .entry)) (now (u .entry)) (now (out .entry))) r (now (out .exit)) ⌝ }
 {
     let mut types = [0u16; FullPair::ROWS];
     let mut counts = [0u16; FullPair::ROWS];
@@ -112,7 +112,7 @@ fn is_small(s: &[u8], n: usize) -> bool
 
 // Joins two slips into an output: the refusal and its side, or the slip of the smallest tree that both are prunings of.
 pub fn join(s: &[u8], u: &[u8], out: &mut [u8]) -> Answer
-    ensures { λ r. ⌜ Packs (joinOf Sha256.label composedText (now (s .entry)) (now (u .entry)) (now (out .entry))) r (now (out .exit)) ⌝ }
+    ensures { λ r. ⌜ Leaves (joinOf Sha256.label composedText (now (s .entry)) (now (u .entry)) (now (out .entry))) r (now (out .exit)) ⌝ }
 {
     let h = header::header_of(s);
     if h.number != Refusal::ACCEPTED {

@@ -14,17 +14,17 @@ use Rattle.columns.specs.declared.gather.Gathered.{Gathered}
 use Rattle.columns.specs.Gathers.{cellOf, valuesOf, Gathers}
 use Rattle.slips.specs.declared.answer.Answer.{Answer}
 use Rattle.slips.specs.Answers.{refused}
-use Rattle.slips.specs.Output.{Packs}
+use Rattle.outcomes.specs.Outcome.{Leaves}
 use Rattle.send.specs.Sent.{sentTree}
 use Rattle.join_tables.specs.Contracts.{fitted}
 
 -- "15, 11", by the size
 module _ (H : List ℕ → List ℕ) (n : Node) (out : List ℕ) where
-  pub fitted-long : maxBytes < length (slipOf (rows n)) → {r : Answer} → r ≡ refused joinTooLarge 0 → Packs (fitted H n out) r out
+  pub fitted-long : maxBytes < length (slipOf (rows n)) → {r : Answer} → r ≡ refused joinTooLarge 0 → Leaves (fitted H n out) r out
   unfolding fitted
   fitted-long h e = rw (lt-ltb maxBytes (length (slipOf (rows n))) h) (record { answered = e; written = refl })
 
-  pub fitted-sent : length (slipOf (rows n)) ≤ maxBytes → {r : Answer} {left : List ℕ} → Packs (sentTree H n out) r left → Packs (fitted H n out) r left
+  pub fitted-sent : length (slipOf (rows n)) ≤ maxBytes → {r : Answer} {left : List ℕ} → Leaves (sentTree H n out) r left → Leaves (fitted H n out) r left
   unfolding fitted
   fitted-sent h p = rw (le-ltb maxBytes (length (slipOf (rows n))) h) p
 

@@ -18,18 +18,18 @@ use Rattle.join_rows.specs.Plans.{Two}
 use Rattle.columns.specs.Gathers.{cellOf, valuesOf, Gatherable}
 use Rattle.slips.specs.declared.answer.Answer.{Answer}
 use Rattle.slips.specs.Answers.{refused}
-use Rattle.slips.specs.Output.{Packed, Packs, still}
+use Rattle.outcomes.specs.Outcome.{Output, Leaves, still}
 use Rattle.send.specs.Sent.{sentTree}
 use Rattle.join_tables.specs.Joined.{joinedOf}
 
 -- "15, 11", of a tree of no more nodes than a slip has
-unfoldable pub fitted : (List ℕ → List ℕ) → Node → List ℕ → Packed
+unfoldable pub fitted : (List ℕ → List ℕ) → Node → List ℕ → Output Answer
 fitted H n out = cond (ltb maxBytes (length (slipOf (rows n)))) (still (refused joinTooLarge 0) out) (sentTree H n out)
 
 -- whatever tree with this root label has the table, it is handed out where it fits
 abbrev pub DeliverGives : List ℕ → List ℕ → List ℕ → List ℕ → List ℕ → List ℕ → Answer → List ℕ → Type 0
 DeliverGives types counts lengths values l out r left =
-    (n : Node) → TreeTable n types counts lengths values → l ≡ label Sha256.label n → Packs (fitted Sha256.label n out) r left
+    (n : Node) → TreeTable n types counts lengths values → l ≡ label Sha256.label n → Leaves (fitted Sha256.label n out) r left
 
 -- the table that a plan names is that of a tree, and no larger than both tables
 pub record GatherAsks (plan types counts lengths values offsets : List ℕ) : Type 0 where
@@ -57,7 +57,7 @@ MergeGives first root types counts lengths values labels out r left =
     → Two Sha256.label a b first types counts lengths values labels
     → Alike Sha256.label a b
     → label Sha256.label a ≡ root
-    → Packs (joinedOf Sha256.label a b out (join Sha256.label a b)) r left
+    → Leaves (joinedOf Sha256.label a b out (join Sha256.label a b)) r left
 
 -- room for where each row's subtree and value start, and for the plan
 pub record PlanRoom (types starts offsets cells : List ℕ) : Type 0 where

@@ -15,7 +15,7 @@ use Rattle.codec.specs.Writing.{slipOf}
 use Rattle.engine.specs.Engine.{noLabel}
 use Rattle.slips.specs.declared.answer.Answer.{Answer}
 use Rattle.slips.specs.Answers.{refused}
-use Rattle.slips.specs.Output.{Packed, still}
+use Rattle.outcomes.specs.Outcome.{Output, still}
 use Rattle.send.specs.Sent.{sentTree}
 
 -- "the two entry numbers for 14"
@@ -27,10 +27,10 @@ abbrev pub tooLarge : Node → Bool
 tooLarge c = ltb maxNodes (size c) || ltb maxBytes (length (slipOf (rows c)))
 
 -- "15"
-abbrev pub largeTests : Node → List ℕ → List (Bool × Packed)
+abbrev pub largeTests : Node → List ℕ → List (Bool × Output Answer)
 largeTests c out = (tooLarge c, still (refused joinTooLarge 0) out) ∷ []
 
 -- "14 .., 15, 11", by the join of the trees a and b
-unfoldable pub joinedOf : (List ℕ → List ℕ) → Node → Node → List ℕ → Joint → Packed
+unfoldable pub joinedOf : (List ℕ → List ℕ) → Node → Node → List ℕ → Joint → Output Answer
 joinedOf H a b out (clash p) = still (clashed (number a p) (number b p)) out
 joinedOf H a b out (ok c) = chain (largeTests c out) (sentTree H c out)

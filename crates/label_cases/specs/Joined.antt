@@ -11,7 +11,8 @@ use Rattle.codec.specs.Reading.{readValue, readLeaf, readRest, readOne, readAll
 use Rattle.codec.specs.Writing.{leafBits, entryBits, allBits, slipBits, slipOf}
 use Rattle.slips.specs.Answers.{taken}
 use Rattle.slips.specs.Check.{paddingFits, settled, headerOf, bodyOf, checkOf}
-use Rattle.slips.specs.Output.{over, Packed, still}
+use Rattle.outcomes.specs.Outcome.{over, Output, still}
+use Rattle.slips.specs.declared.answer.Answer.{Answer}
 use Rattle.send.specs.Sent.{sent}
 use Rattle.join_tables.specs.Joined.{clashed, joinedOf}
 use Rattle.join.specs.Join.{joinOf}
@@ -22,7 +23,7 @@ pub record Case : Type 0 where
   first : List ℕ
   second : List ℕ
   room : List ℕ
-  outcome : Packed
+  outcome : Output Answer
 
 -- they are joined with b blocks and the label l, and the slip w is written
 abbrev pub accepts : List ℕ → List ℕ → ℕ → List ℕ → List ℕ → Case
@@ -31,7 +32,7 @@ accepts s u b l w =
       first = s;
       second = u;
       room = output (length w);
-      outcome = record { answer = taken (length w) b l; bytes = over w (output (length w)) };
+      outcome = record { answer = taken (length w) b l; left = over w (output (length w)) };
     }
 
 -- they clash at the entries i and j

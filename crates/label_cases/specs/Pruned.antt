@@ -12,7 +12,8 @@ use Rattle.tables.specs.PruningList.{named, firstFault}
 use Rattle.codec.specs.Writing.{leafBits, entryBits, allBits, slipBits, slipOf}
 use Rattle.slips.specs.Answers.{taken}
 use Rattle.slips.specs.Check.{paddingFits, settled, headerOf, bodyOf, checkOf}
-use Rattle.slips.specs.Output.{over, Packed}
+use Rattle.outcomes.specs.Outcome.{over, Output}
+use Rattle.slips.specs.declared.answer.Answer.{Answer}
 use Rattle.send.specs.Sent.{sent}
 use Rattle.prune_tables.specs.Pruned.{prunedOf}
 use Rattle.prune.specs.Prune.{pruneOf}
@@ -22,13 +23,13 @@ use Rattle.label_cases.specs.Values.{copies, bytes, output}
 pub record Case : Type 0 where
   slip : List ℕ
   list : List ℕ
-  outcome : Packed
+  outcome : Output Answer
   room : List ℕ
 
 -- it is accepted with b blocks and the label l, and the slip w is written
 abbrev pub accepts : List ℕ → List ℕ → ℕ → List ℕ → List ℕ → Case
 accepts s list b l w =
-    record { slip = s; list = list; room = output (length w); outcome = record { answer = taken (length w) b l; bytes = over w (output (length w)) } }
+    record { slip = s; list = list; room = output (length w); outcome = record { answer = taken (length w) b l; left = over w (output (length w)) } }
 
 abbrev pub cases : List Case
 cases =

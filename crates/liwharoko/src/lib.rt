@@ -8,13 +8,13 @@ use slips::answer::Answer;
 use titles::Composed;
 ghost use mathlib.Core.Path.{_≡_};
 ghost use Rattle.sha2.specs.Sha256 as Sha256;
-ghost use Rattle.titles.specs.Compose.{Met, composedText};
+ghost use Rattle.outcomes.specs.Outcome.{Leaves};
+ghost use Rattle.titles.specs.Compose.{composeOf, composedText};
 ghost use Rattle.tables.specs.Tables.{table};
 ghost use Rattle.lookup.specs.Lookup.{lookup};
 ghost use Rattle.slips.specs.Check.{checkOf};
-ghost use Rattle.slips.specs.Output.{Packs};
 ghost use Rattle.pack.specs.Pack.{packOf};
-ghost use Rattle.unpack.specs.Unpack.{Leaves, unpackOf};
+ghost use Rattle.unpack.specs.Unpack.{unpackOf};
 ghost use Rattle.prune.specs.Prune.{pruneOf};
 ghost use Rattle.join.specs.Join.{joinOf};
 ghost use Rattle.liwharoko.specs.Parts.{partOf};
@@ -42,7 +42,7 @@ pub extern "C" fn liwharoko_pack(
     values: &[u8],
     out: &mut [u8],
 ) -> Answer
-    ensures { λ r. ⌜ Packs (packOf Sha256.label composedText (table (now (types .entry)) (now (counts .entry)) (now (lengths .entry)) (now (values .entry))) (now (out .entry))) r (now (out .exit)) ⌝ }
+    ensures { λ r. ⌜ Leaves (packOf Sha256.label composedText (table (now (types .entry)) (now (counts .entry)) (now (lengths .entry)) (now (values .entry))) (now (out .entry))) r (now (out .exit)) ⌝ }
 {
     pack::pack(types, counts, lengths, values, out)
 }
@@ -55,21 +55,21 @@ pub extern "C" fn liwharoko_unpack(
     lengths: &mut [u16],
     values: &mut [u8],
 ) -> Answer
-    ensures { λ r. ⌜ Leaves (unpackOf Sha256.label composedText (now (slip .entry)) (table (now (types .entry)) (now (counts .entry)) (now (lengths .entry)) (now (values .entry)))) r (now (types .exit)) (now (counts .exit)) (now (lengths .exit)) (now (values .exit)) ⌝ }
+    ensures { λ r. ⌜ Leaves (unpackOf Sha256.label composedText (now (slip .entry)) (table (now (types .entry)) (now (counts .entry)) (now (lengths .entry)) (now (values .entry)))) r (table (now (types .exit)) (now (counts .exit)) (now (lengths .exit)) (now (values .exit))) ⌝ }
 {
     unpack::unpack(slip, types, counts, lengths, values)
 }
 
 #[no_mangle]
 pub extern "C" fn liwharoko_prune(slip: &[u8], list: &[u16], out: &mut [u8]) -> Answer
-    ensures { λ r. ⌜ Packs (pruneOf Sha256.label composedText (now (slip .entry)) (now (list .entry)) (now (out .entry))) r (now (out .exit)) ⌝ }
+    ensures { λ r. ⌜ Leaves (pruneOf Sha256.label composedText (now (slip .entry)) (now (list .entry)) (now (out .entry))) r (now (out .exit)) ⌝ }
 {
     prune(slip, list, out)
 }
 
 #[no_mangle]
 pub extern "C" fn liwharoko_join(first: &[u8], second: &[u8], out: &mut [u8]) -> Answer
-    ensures { λ r. ⌜ Packs (joinOf Sha256.label composedText (now (first .entry)) (now (second .entry)) (now (out .entry))) r (now (out .exit)) ⌝ }
+    ensures { λ r. ⌜ Leaves (joinOf Sha256.label composedText (now (first .entry)) (now (second .entry)) (now (out .entry))) r (now (out .exit)) ⌝ }
 {
     join(first, second, out)
 }
@@ -141,7 +141,7 @@ pub extern "C" fn liwharoko_holder(
 
 #[no_mangle]
 pub extern "C" fn liwharoko_compose(title: &[u8], out: &mut [u8]) -> Composed
-    ensures { λ r. ⌜ Met (now (title .entry)) (now (out .entry)) r (now (out .exit)) ⌝ }
+    ensures { λ r. ⌜ Leaves (composeOf (now (title .entry)) (now (out .entry))) r (now (out .exit)) ⌝ }
 {
     titles::compose(title, out)
 }

@@ -27,7 +27,7 @@ use Rattle.join_rows.specs.JoinTable.{planned-table, join-room, join-gathering}
 use Rattle.join_rows.specs.TwoLaws.{first-low, values-room}
 use Rattle.slips.specs.declared.answer.Answer.{Answer}
 use Rattle.slips.specs.Answers.{refused}
-use Rattle.slips.specs.Output.{Packs}
+use Rattle.outcomes.specs.Outcome.{Leaves}
 use Rattle.join_tables.specs.Joined.{clashed, joinedOf}
 use Rattle.join_tables.specs.Contracts.{fitted, GatherAsks, MergeAsks}
 
@@ -60,17 +60,17 @@ module _ {H : List ℕ → List ℕ} {a b : Node} {cells : List ℕ} {p : Planne
 
 -- a clash is told by its entries
 pub clash-joined : (H : List ℕ → List ℕ) (a b : Node) (cells : List ℕ) (p : Planned) (j : Joint) (out : List ℕ) {r : Answer} → p .clash ≡ true
-    → PlannedAs H a b cells p j → r ≡ clashed (p .first) (p .second) → Packs (joinedOf H a b out j) r out
+    → PlannedAs H a b cells p j → r ≡ clashed (p .first) (p .second) → Leaves (joinedOf H a b out j) r out
 unfolding joinedOf
 clash-joined H a b cells p (ok c) out e q g = absurd (true≢false (sym e ∙ q .0))
 clash-joined H a b cells p (clash o) out e q g = record { answered = g ∙ (λ i. clashed (q .1 i) (q .2 i)); written = refl }
 
-many-rows : (H : List ℕ → List ℕ) (a b c : Node) (out : List ℕ) {r : Answer} → maxNodes < size c → r ≡ refused joinTooLarge 0 → Packs (joinedOf H a b out (ok c)) r out
+many-rows : (H : List ℕ → List ℕ) (a b c : Node) (out : List ℕ) {r : Answer} → maxNodes < size c → r ≡ refused joinTooLarge 0 → Leaves (joinedOf H a b out (ok c)) r out
 unfolding joinedOf
 many-rows H a b c out h e = rw (lt-ltb maxNodes (size c) h) (record { answered = e; written = refl })
 
-few-rows : (H : List ℕ → List ℕ) (a b c : Node) (out : List ℕ) {r : Answer} {left : List ℕ} → size c ≤ maxNodes → Packs (fitted H c out) r left
-    → Packs (joinedOf H a b out (ok c)) r left
+few-rows : (H : List ℕ → List ℕ) (a b c : Node) (out : List ℕ) {r : Answer} {left : List ℕ} → size c ≤ maxNodes → Leaves (fitted H c out) r left
+    → Leaves (joinedOf H a b out (ok c)) r left
 unfolding joinedOf fitted
 few-rows H a b c out h e = rw (le-ltb maxNodes (size c) h) e
 
@@ -113,14 +113,14 @@ module _ {first : ℕ} {types counts lengths values labels starts offsets cells 
 
 -- a join of too many rows, and one that is handed out: its root has the label of both
 module _ {a b : Node} {cells : List ℕ} {p : Planned} {j : Joint} (x : Unclashed Sha256.label a b cells p j) (out : List ℕ) {r : Answer} where
-  pub large-joined : maxNodes < p .rows → r ≡ refused joinTooLarge 0 → Packs (joinedOf Sha256.label a b out j) r out
+  pub large-joined : maxNodes < p .rows → r ≡ refused joinTooLarge 0 → Leaves (joinedOf Sha256.label a b out j) r out
   large-joined h e =
-      subst (λ (k : Joint). Packs (joinedOf Sha256.label a b out k) r out) (sym (x .is)) (many-rows Sha256.label a b (x .tree) out (omega (arith, x .rows-are)) e)
+      subst (λ (k : Joint). Leaves (joinedOf Sha256.label a b out k) r out) (sym (x .is)) (many-rows Sha256.label a b (x .tree) out (omega (arith, x .rows-are)) e)
 
   pub small-joined : {left root : List ℕ} → j ≡ join Sha256.label a b → Alike Sha256.label a b → label Sha256.label a ≡ root → p .rows ≤ maxNodes
-      → (root ≡ label Sha256.label (x .tree) → Packs (fitted Sha256.label (x .tree) out) r left)
-      → Packs (joinedOf Sha256.label a b out j) r left
+      → (root ≡ label Sha256.label (x .tree) → Leaves (fitted Sha256.label (x .tree) out) r left)
+      → Leaves (joinedOf Sha256.label a b out j) r left
   small-joined {left} g alike l few f =
       let whole = join-ok Sha256.label a b (x .tree) alike (sym g ∙ x .is) in
-      subst (λ (k : Joint). Packs (joinedOf Sha256.label a b out k) r left) (sym (x .is))
+      subst (λ (k : Joint). Leaves (joinedOf Sha256.label a b out k) r left) (sym (x .is))
       (few-rows Sha256.label a b (x .tree) out (omega (arith, x .rows-are)) (f (sym l ∙ le-label Sha256.label a (x .tree) (whole .left))))

@@ -1,3 +1,6 @@
--- The refusal numbers, and outcomes by tests in order.
+-- The refusal numbers, outcomes, and outcomes by tests in order.
 pub mod Refusals
+pub mod Outcome
 pub mod Chain
+-- Laws:
+pub mod OutcomeLaws

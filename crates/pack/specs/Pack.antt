@@ -15,7 +15,7 @@ use Rattle.engine.specs.Engine.{oneTree, rootLabel}
 use Rattle.slips.specs.declared.answer.Answer.{Answer}
 use Rattle.pack.specs.declared.Fault.{Fault}
 use Rattle.slips.specs.Answers.{refused, taken}
-use Rattle.slips.specs.Output.{Packed, over}
+use Rattle.outcomes.specs.Outcome.{Output, over}
 
 -- the table's entries
 abbrev pub rowsOf : Table → List Entry
@@ -62,9 +62,9 @@ module _ (H : List ℕ → List ℕ) (composed : List ℕ → Bool) where
       tabled (faultOf t) (chain (sizeTests t) (judgedAs (rowsOf t) room (verdict H composed (rowsOf t))))
 
   -- the packing of a table into an output: the slip where it is accepted, and nothing else is written
-  unfoldable pub packOf : Table → List ℕ → Packed
+  unfoldable pub packOf : Table → List ℕ → Output Answer
   packOf t out =
       record {
         answer = answerOf t (length out);
-        bytes = cond (eqb (answerOf t (length out) .number) accepted) (over (slipOf (rowsOf t)) out) out;
+        left = cond (eqb (answerOf t (length out) .number) accepted) (over (slipOf (rowsOf t)) out) out;
       }

@@ -24,7 +24,7 @@ use Rattle.slips.specs.declared.answer.Answer.{Answer}
 use Rattle.slips.specs.Answers.{refused, taken}
 use Rattle.slips.specs.Verdicts.{Refuses, verdict-refuses}
 use Rattle.pack.specs.Pack.{rowsOf, badRow, faultOf, judgedAs, answerOf, packOf}
-use Rattle.slips.specs.Output.{over, Packs}
+use Rattle.outcomes.specs.Outcome.{over, Leaves}
 
 module _ (t : Table) where
   pub fault-columns : columnsFit (t .types) (t .counts) (t .lengths) ≡ false → record { number = badTable; place = 0 } ≡ faultOf t
@@ -203,13 +203,13 @@ judged-cases {C} es room st b f g h = go (oneTree st) refl (ltb room (length (sl
     go true e false l = h e (ltb-false room (length (slipOf es)) l) (rw (e, l))
 
 module _ (H : List ℕ → List ℕ) (composed : List ℕ → Bool) (t : Table) (out : List ℕ) {a : Answer} (e : a ≡ answerOf H composed t (length out)) where
-  pub pack-refused : (a .number ≡ accepted → ⊥) → Packs (packOf H composed t out) a out
+  pub pack-refused : (a .number ≡ accepted → ⊥) → Leaves (packOf H composed t out) a out
   unfolding packOf
   pack-refused h =
       let n = ap (λ (x : Answer). x .number) e in
       record { answered = e; written = sym (rw (ne-eqb (answerOf H composed t (length out) .number) accepted (λ q. h (n ∙ q)))) }
 
-  pub pack-taken : {left : List ℕ} → a .number ≡ accepted → left ≡ over (slipOf (rowsOf t)) out → Packs (packOf H composed t out) a left
+  pub pack-taken : {left : List ℕ} → a .number ≡ accepted → left ≡ over (slipOf (rowsOf t)) out → Leaves (packOf H composed t out) a left
   unfolding packOf
   pack-taken h w =
       let n = ap (λ (x : Answer). x .number) e in

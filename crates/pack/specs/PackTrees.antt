@@ -25,7 +25,7 @@ use Rattle.codec.specs.TableLaws.{fits-internal, fits-dangling, fits-pair}
 use Rattle.engine.specs.Engine.{oneTree}
 use Rattle.slips.specs.declared.answer.Answer.{Answer}
 use Rattle.slips.specs.Answers.{refused, taken}
-use Rattle.slips.specs.Output.{over}
+use Rattle.outcomes.specs.Outcome.{over}
 use Rattle.slips.specs.Verdicts.{Refuses, verdict-refuses}
 use Rattle.tables.specs.Cells.{typeCell, countCell, lengthCell, valueCell, valuesOf}
 use Rattle.unpack.specs.Unpack.{tableOf}
@@ -173,7 +173,7 @@ module _ (H : List ℕ → List ℕ) (composed : List ℕ → Bool) where
 
   -- the slip is what is written
   pub pack-outcome : (t : Table) (n : Node) (out : List ℕ) → TableOf t n → length (slipOf (rows n)) ≤ length out
-      → packOf H composed t out ≡ record { answer = taken (length (slipOf (rows n))) (blocks H n) (label H n); bytes = over (slipOf (rows n)) out }
+      → packOf H composed t out ≡ record { answer = taken (length (slipOf (rows n))) (blocks H n) (label H n); left = over (slipOf (rows n)) out }
   unfolding packOf
   pack-outcome t n out x fits = rw (pack-complete t n (length out) x fits, table-rows t n x)
 

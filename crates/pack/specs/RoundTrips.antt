@@ -21,24 +21,24 @@ use Rattle.codec.specs.SlipLaws.{Reads, slip-reads}
 use Rattle.slips.specs.declared.answer.Answer.{Answer}
 use Rattle.slips.specs.Answers.{taken}
 use Rattle.slips.specs.Check.{countOf, readingOf, checkOf}
-use Rattle.slips.specs.Output.{Packed, over}
+use Rattle.outcomes.specs.Outcome.{Output, over, Outcome}
 use Rattle.slips.specs.SlipTrees.{SlipOf, check-complete, slip-rows}
 use Rattle.slips.specs.SlipTree.{slipTree}
 use Rattle.slips.specs.ByteTrees.{accepted-slip}
 use Rattle.tables.specs.Cells.{typeCell}
-use Rattle.unpack.specs.Unpack.{Unpacked, overAll, tableIn, tableOf, unpackOf}
+use Rattle.unpack.specs.Unpack.{overAll, tableIn, tableOf, unpackOf}
 use Rattle.unpack.specs.UnpackLaws.{Room, handed-out, handed-told, in-over}
 use Rattle.pack.specs.Pack.{rowsOf, answerOf, packOf}
 use Rattle.pack.specs.PackTrees.{table-of-formed, TableOf, table-rows, pack-complete, pack-outcome, pack-sound}
 
 -- what an accepted call has written: "writes exactly its length"
-abbrev pub written : Packed → List ℕ
-written p = take (p .answer .length) (p .bytes)
+abbrev pub written : Output Answer → List ℕ
+written p = take (p .answer .length) (p .left)
 
 -- the table t was packed with the outcome p, unpacked over the buffers b with the outcome u, and stands in them
-pub record Again (t b : Table) (p : Packed) (u : Unpacked) : Type 0 where
-  pub outcome : u ≡ record { answer = p .answer; buffers = overAll t b }
-  pub holds : tableIn (length (t .types)) (u .buffers) ≡ t
+pub record Again (t b : Table) (p : Output Answer) (u : Outcome Answer Table) : Type 0 where
+  pub outcome : u ≡ record { answer = p .answer; left = overAll t b }
+  pub holds : tableIn (length (t .types)) (u .left) ≡ t
 
 module _ (H : List ℕ → List ℕ) (composed : List ℕ → Bool) where
   -- a tree's table has the form
@@ -96,9 +96,9 @@ module _ (H : List ℕ → List ℕ) (composed : List ℕ → Bool) where
       let checks = written-checks t out bytes e in
       let table : tableOf (readingOf (written (packOf H composed t out)) .rows) ≡ t =
       ap (λ (w : List ℕ). tableOf (readingOf w .rows)) same ∙ ap tableOf (slip-rows H composed (slipOf (rows n)) n slip) ∙ sym (x .is) in
-      let out-is : unpackOf H composed (written (packOf H composed t out)) b ≡ record { answer = packOf H composed t out .answer; buffers = overAll t b } =
+      let out-is : unpackOf H composed (written (packOf H composed t out)) b ≡ record { answer = packOf H composed t out .answer; left = overAll t b } =
       rw (checks, table) (handed-out (packOf H composed t out .answer) t b e room) in
-      record { outcome = out-is; holds = ap (λ (u : Unpacked). tableIn (length (t .types)) (u .buffers)) out-is ∙ in-over t b (formed-table t n x) }
+      record { outcome = out-is; holds = ap (λ (u : Outcome Answer Table). tableIn (length (t .types)) (u .left)) out-is ∙ in-over t b (formed-table t n x) }
 
   -- the table of a slip's tree
   slip-table : (s : List ℕ) (n : Node) → SlipOf H composed s n → TableOf H composed (tableOf (rows n)) n
@@ -112,7 +112,7 @@ module _ (H : List ℕ → List ℕ) (composed : List ℕ → Bool) where
 
   -- what the unpacker leaves of an accepted slip: in the first rows, as many as the slip names, stands the table of its tree
   pub unpacked-table : (s : List ℕ) → Below 256 s → (b : Table) → unpackOf H composed s b .answer .number ≡ accepted
-      → tableIn (countOf s) (unpackOf H composed s b .buffers) ≡ tableOf (rows (slipTree s))
+      → tableIn (countOf s) (unpackOf H composed s b .left) ≡ tableOf (rows (slipTree s))
   unfolding unpackOf
   unpacked-table s bytes b e =
       let h = handed-told (checkOf H composed s) (tableOf (readingOf s .rows)) b e in
@@ -120,7 +120,7 @@ module _ (H : List ℕ → List ℕ) (composed : List ℕ → Bool) where
       let x = accepted-slip H composed s bytes (h .taken) in
       let t : Table = tableOf (rows n) in
       let count : countOf s ≡ length (t .types) = slip-count s n x ∙ sym (length-map (rows n) typeCell) in
-      ap (λ (u : Unpacked). tableIn (countOf s) (u .buffers)) (h .is)
+      ap (λ (u : Outcome Answer Table). tableIn (countOf s) (u .left)) (h .is)
       ∙ ap (λ (es : List Entry). tableIn (countOf s) (overAll (tableOf es) b)) (slip-rows H composed s n x)
       ∙ ap (λ (k : ℕ). tableIn k (overAll t b)) count
       ∙ in-over t b (formed-table t n (slip-table s n x))
@@ -128,8 +128,8 @@ module _ (H : List ℕ → List ℕ) (composed : List ℕ → Bool) where
   -- "a slip unpacked and packed is the same slip": the table that the unpacker leaves, packed where the slip has room
   pub slip-again : (s : List ℕ) → Below 256 s → (b : Table) → unpackOf H composed s b .answer .number ≡ accepted
       → (out : List ℕ) → length s ≤ length out
-      → packOf H composed (tableIn (countOf s) (unpackOf H composed s b .buffers)) out
-      ≡ record { answer = unpackOf H composed s b .answer; bytes = over s out }
+      → packOf H composed (tableIn (countOf s) (unpackOf H composed s b .left)) out
+      ≡ record { answer = unpackOf H composed s b .answer; left = over s out }
   unfolding unpackOf
   slip-again s bytes b e out fits =
       let h = handed-told (checkOf H composed s) (tableOf (readingOf s .rows)) b e in
@@ -137,8 +137,8 @@ module _ (H : List ℕ → List ℕ) (composed : List ℕ → Bool) where
       let x = accepted-slip H composed s bytes (h .taken) in
       let is : s ≡ slipOf (rows n) = x .is in
       let answers : unpackOf H composed s b .answer ≡ taken (length s) (blocks H n) (label H n) =
-      ap (λ (u : Unpacked). u .answer) (h .is) ∙ check-complete H composed s n x in
+      ap (λ (u : Outcome Answer Table). u .answer) (h .is) ∙ check-complete H composed s n x in
       ap (λ (t : Table). packOf H composed t out) (unpacked-table s bytes b e)
       ∙ pack-outcome H composed (tableOf (rows n)) n out (slip-table s n x) (omega (arith, ap length is))
-      ∙ ap (λ (w : List ℕ). record { answer = taken (length w) (blocks H n) (label H n); bytes = over w out }) (sym is)
-      ∙ ap (λ (a : Answer). record { answer = a; bytes = over s out }) (sym answers)
+      ∙ ap (λ (w : List ℕ). record { answer = taken (length w) (blocks H n) (label H n); left = over w out }) (sym is)
+      ∙ ap (λ (a : Answer). record { answer = a; left = over s out }) (sym answers)

@@ -17,7 +17,7 @@ ghost use Rattle.trees.specs.Rules.{maxBytes};
 ghost use Rattle.trees.specs.Rows.{verdict};
 ghost use Rattle.tables.specs.Tables.{table, sum, Formed};
 ghost use Rattle.engine.specs.Engine.{told};
-ghost use Rattle.slips.specs.Output.{Packs};
+ghost use Rattle.outcomes.specs.Outcome.{Leaves};
 ghost use Rattle.pack.specs.Contracts.{Answered};
 ghost use Rattle.pack.specs.Pack.{faultOf, rowsOf, answerOf, packOf};
 
@@ -96,9 +96,9 @@ fn answer_of(types: &[u16], counts: &[u16], lengths: &[u16], values: &[u8], room
     answer::taken(bytes, j.blocks, label)
 }
 
-// Packs a table into `out`: the slip of its tree, or the refusal.
+// Leaves a table into `out`: the slip of its tree, or the refusal.
 pub fn pack(types: &[u16], counts: &[u16], lengths: &[u16], values: &[u8], out: &mut [u8]) -> Answer
-    ensures { λ r. ⌜ Packs (packOf Sha256.label composedText (table (now (types .entry)) (now (counts .entry)) (now (lengths .entry)) (now (values .entry))) (now (out .entry))) r (now (out .exit)) ⌝ }
+    ensures { λ r. ⌜ Leaves (packOf Sha256.label composedText (table (now (types .entry)) (now (counts .entry)) (now (lengths .entry)) (now (values .entry))) (now (out .entry))) r (now (out .exit)) ⌝ }
 {
     let a = answer_of(types, counts, lengths, values, out.len());
     if a.number != Refusal::ACCEPTED {

@@ -10,7 +10,7 @@ use Rattle.tables.specs.Cells.{countCell}
 use Rattle.prune_rows.specs.TableLaws.{entries-counts}
 use Rattle.slips.specs.declared.answer.Answer.{Answer}
 use Rattle.slips.specs.Check.{readingOf, checkOf}
-use Rattle.slips.specs.Output.{Packs}
+use Rattle.outcomes.specs.Outcome.{Leaves}
 use Rattle.slips.specs.SlipTree.{slipTree}
 use Rattle.slips.specs.Holding.{HoldsTree}
 use Rattle.prune_tables.specs.Pruned.{prunedOf}
@@ -18,7 +18,7 @@ use Rattle.prune.specs.Prune.{pruneOf}
 
 module _ (H : List ℕ → List ℕ) (composed : List ℕ → Bool) (s list out : List ℕ) where
   -- a slip that is refused
-  pub prune-refused : {a : Answer} → a ≡ checkOf H composed s → (a .number ≡ accepted → ⊥) → Packs (pruneOf H composed s list out) a out
+  pub prune-refused : {a : Answer} → a ≡ checkOf H composed s → (a .number ≡ accepted → ⊥) → Leaves (pruneOf H composed s list out) a out
   unfolding pruneOf
   prune-refused {a} e h =
       rw (ne-eqb (checkOf H composed s .number) accepted (λ q. h (ap (λ (x : Answer). x .number) e ∙ q))) (record { answered = e; written = refl })

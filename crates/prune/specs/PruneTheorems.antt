@@ -31,7 +31,7 @@ use Rattle.prune_rows.specs.Width.{width, pruned-narrow}
 use Rattle.slips.specs.declared.answer.Answer.{Answer}
 use Rattle.slips.specs.Answers.{refused, taken}
 use Rattle.slips.specs.Check.{checkOf}
-use Rattle.slips.specs.Output.{over, Packed, still}
+use Rattle.outcomes.specs.Outcome.{over, Output, still}
 use Rattle.slips.specs.SlipTrees.{SlipOf, proper-formed, slip-rows, check-complete}
 use Rattle.slips.specs.SlipTree.{slipTree}
 use Rattle.slips.specs.SlipTreeLaws.{slip-tree}
@@ -71,14 +71,14 @@ module _ (H : List ℕ → List ℕ) (composed : List ℕ → Bool) where
 
   -- a slip with room for it is handed out as it is
   sent-whole : (s out : List ℕ) (n : Node) → SlipOf H composed s n → length s ≤ length out
-      → sentTree H n out ≡ record { answer = checkOf H composed s; bytes = over s out }
+      → sentTree H n out ≡ record { answer = checkOf H composed s; left = over s out }
   unfolding sent
   sent-whole s out n x room = rw (sym (x .is), le-ltb (length out) (length s) room, check-complete H composed s n x) refl
 
   -- some list for which the pruner makes the slip u into the slip s
   pub record PrunesTo (u s out : List ℕ) : Type 0 where
     pub list : List ℕ
-    pub outcome : pruneOf H composed u list out ≡ record { answer = checkOf H composed s; bytes = over s out }
+    pub outcome : pruneOf H composed u list out ≡ record { answer = checkOf H composed s; left = over s out }
 
   -- every slip of a pruning is what the pruner makes of the larger one
   pub le-prunes : (s u out : List ℕ) (a b : Node) → SlipOf H composed s a → SlipOf H composed u b → Le H a b → length s ≤ length out
@@ -99,7 +99,7 @@ module _ (H : List ℕ → List ℕ) (composed : List ℕ → Bool) where
 
   -- "An empty list returns the slip."
   pub prune-none : (s out : List ℕ) (n : Node) → SlipOf H composed s n → length s ≤ length out
-      → pruneOf H composed s [] out ≡ record { answer = checkOf H composed s; bytes = over s out }
+      → pruneOf H composed s [] out ≡ record { answer = checkOf H composed s; left = over s out }
   prune-none s out n x room =
       clean-sent s [] out n x none-clean ∙ ap (λ (m : Node). sentTree H m out) (whole n) ∙ sent-whole s out n x room
     where
@@ -188,7 +188,7 @@ module _ (H : List ℕ → List ℕ) (composed : List ℕ → Bool) (long : (x :
         pruneOf H composed s list out
         ≡ record {
           answer = taken (length (slipOf (rows (pruned H list n)))) (blocks H (pruned H list n)) (label H n);
-          bytes = over (slipOf (rows (pruned H list n))) out;
+          left = over (slipOf (rows (pruned H list n))) out;
         }
 
   abbrev pub PrunedAs : List ℕ → List ℕ → List ℕ → Type 0
@@ -229,7 +229,7 @@ module _ (H : List ℕ → List ℕ) (composed : List ℕ → Bool) (long : (x :
           outcome =
               e
               ∙ rw t
-              (ap (λ (l : List ℕ). record { answer = taken (length (slipOf (rows m))) (blocks H m) l; bytes = over (slipOf (rows m)) out }) (cut-label H (f list n) n));
+              (ap (λ (l : List ℕ). record { answer = taken (length (slipOf (rows m))) (blocks H m) l; left = over (slipOf (rows m)) out }) (cut-label H (f list n) n));
         })
 
     by-list : (n : Node) → SlipOf H composed s n → pruneOf H composed s list out ≡ prunedOf H (countsOf n) list n out
@@ -255,8 +255,8 @@ module _ (H : List ℕ → List ℕ) (composed : List ℕ → Bool) (long : (x :
   pub prune-told : (s list out : List ℕ) → Below 256 s → pruneOf H composed s list out .answer .number ≡ accepted → PrunedAs s list out
   prune-told s list out below e = go (prune-goes s list out below)
     where
-      number-is : (p : Packed) → pruneOf H composed s list out ≡ p → p .answer .number ≡ accepted
-      number-is p d = ap (λ (q : Packed). q .answer .number) (sym d) ∙ e
+      number-is : (p : Output Answer) → pruneOf H composed s list out ≡ p → p .answer .number ≡ accepted
+      number-is p d = ap (λ (q : Output Answer). q .answer .number) (sym d) ∙ e
 
       go : Goes s list out → PrunedAs s list out
       go (slip bad d) = absurd (bad (number-is _ d))
@@ -272,4 +272,4 @@ module _ (H : List ℕ → List ℕ) (composed : List ℕ → Bool) (long : (x :
       let m : Node = pruned H list (slipTree s) in
       check-complete H composed (slipOf (rows m)) m (x .tree .output)
       ∙ ap (taken (length (slipOf (rows m))) (blocks H m)) (cut-label H (f list (slipTree s)) (slipTree s))
-      ∙ sym (ap (λ (p : Packed). p .answer) (x .outcome))
+      ∙ sym (ap (λ (p : Output Answer). p .answer) (x .outcome))

@@ -15,7 +15,7 @@ ghost use Rattle.tables.specs.Areas.{smallBytes, smallNodes};
 ghost use Rattle.outcomes.specs.Refusals.{accepted};
 ghost use Rattle.slips.specs.Check.{headerOf};
 ghost use Rattle.slips.specs.Opening.{Counted};
-ghost use Rattle.slips.specs.Output.{Packs};
+ghost use Rattle.outcomes.specs.Outcome.{Leaves};
 ghost use Rattle.prune.specs.Prune.{pruneOf};
 ghost use Rattle.prune.specs.Contracts.{PruneAsks};
 
@@ -32,7 +32,7 @@ fn prune_in(
     out: &mut [u8],
 ) -> Answer
     requires { ⌜ PruneAsks (now s) n (now types) (now counts) (now lengths) (now values) (now labels) ⌝ }
-    ensures { λ r. ⌜ Packs (pruneOf Sha256.label composedText (now (s .entry)) (now (list .entry)) (now (out .entry))) r (now (out .exit)) ⌝ }
+    ensures { λ r. ⌜ Leaves (pruneOf Sha256.label composedText (now (s .entry)) (now (list .entry)) (now (out .entry))) r (now (out .exit)) ⌝ }
 {
     let o = open::open_in(s, n, types, counts, lengths, values, labels);
     let a = o.answer;
@@ -56,7 +56,7 @@ fn prune_in(
 // In areas for a slip of at most 1,024 bytes and 64 nodes.
 fn small(s: &[u8], n: usize, list: &[u16], out: &mut [u8]) -> Answer
     requires { ⌜ Counted (now s) n smallBytes smallNodes × (headerOf (now s) .number ≡ accepted) ⌝ }
-    ensures { λ r. ⌜ Packs (pruneOf Sha256.label composedText (now (s .entry)) (now (list .entry)) (now (out .entry))) r (now (out .exit)) ⌝ }
+    ensures { λ r. ⌜ Leaves (pruneOf Sha256.label composedText (now (s .entry)) (now (list .entry)) (now (out .entry))) r (now (out .exit)) ⌝ }
 {
     let mut types = [0u16; Small::NODES];
     let mut counts = [0u16; Small::NODES];
@@ -79,7 +79,7 @@ fn small(s: &[u8], n: usize, list: &[u16], out: &mut [u8]) -> Answer
 // In areas for any slip.
 fn large(s: &[u8], n: usize, list: &[u16], out: &mut [u8]) -> Answer
     requires { ⌜ Counted (now s) n maxBytes maxNodes × (headerOf (now s) .number ≡ accepted) ⌝ }
-    ensures { λ r. ⌜ Packs (pruneOf Sha256.label composedText (now (s .entry)) (now (list .entry)) (now (out .entry))) r (now (out .exit)) ⌝ }
+    ensures { λ r. ⌜ Leaves (pruneOf Sha256.label composedText (now (s .entry)) (now (list .entry)) (now (out .entry))) r (now (out .exit)) ⌝ }
 {
     let mut types = [0u16; Slip::MAX_NODES];
     let mut counts = [0u16; Slip::MAX_NODES];
@@ -101,7 +101,7 @@ fn large(s: &[u8], n: usize, list: &[u16], out: &mut [u8]) -> Answer
 
 // Writes the slip of the tree pruned at the internal nodes that the list names by their entry numbers.
 pub fn prune(s: &[u8], list: &[u16], out: &mut [u8]) -> Answer
-    ensures { λ r. ⌜ Packs (pruneOf Sha256.label composedText (now (s .entry)) (now (list .entry)) (now (out .entry))) r (now (out .exit)) ⌝ }
+    ensures { λ r. ⌜ Leaves (pruneOf Sha256.label composedText (now (s .entry)) (now (list .entry)) (now (out .entry))) r (now (out .exit)) ⌝ }
 {
     let h = header::header_of(s);
     if h.number != Refusal::ACCEPTED {

@@ -10,7 +10,7 @@ use Rattle.tables.specs.Records.{Holds}
 use Rattle.sha2.specs.Sha256 as Sha256
 use Rattle.send.specs.Sent.{sentTree}
 use Rattle.slips.specs.declared.answer.Answer.{Answer}
-use Rattle.slips.specs.Output.{Packs}
+use Rattle.outcomes.specs.Outcome.{Leaves}
 use Rattle.prune_tables.specs.Pruned.{prunedOf}
 
 -- a table that holds a tree
@@ -25,7 +25,7 @@ CutGives types counts lengths values labels list l out r left =
     (n : Node)
     → Holds Sha256.label n types counts lengths values labels
     → l ≡ label Sha256.label n
-    → Packs (prunedOf Sha256.label counts list n out) r left
+    → Leaves (prunedOf Sha256.label counts list n out) r left
 
 -- and a list without fault
 pub record CleanAsks (types counts lengths values labels list : List ℕ) : Type 0 where
@@ -38,4 +38,4 @@ CleanGives types counts lengths values labels list l out r left =
     (n : Node)
     → Holds Sha256.label n types counts lengths values labels
     → l ≡ label Sha256.label n
-    → Packs (sentTree Sha256.label (pruned Sha256.label list n) out) r left
+    → Leaves (sentTree Sha256.label (pruned Sha256.label list n) out) r left

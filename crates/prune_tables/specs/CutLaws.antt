@@ -17,13 +17,13 @@ use Rattle.prune_rows.specs.Contracts.{Written, Prunes}
 use Rattle.prune_rows.specs.PrunedLaws.{rows-pruned}
 use Rattle.slips.specs.declared.answer.Answer.{Answer}
 use Rattle.slips.specs.Answers.{refused}
-use Rattle.slips.specs.Output.{Packed, Packs}
+use Rattle.outcomes.specs.Outcome.{Output, Leaves}
 use Rattle.send.specs.Sent.{sentTree}
 use Rattle.prune_tables.specs.Pruned.{prunedOf}
 
 -- an outcome by another name
-pub packs-as : {p q : Packed} {r : Answer} {out : List ℕ} → p ≡ q → Packs p r out → Packs q r out
-packs-as {r = r} {out} e x = subst (λ (y : Packed). Packs y r out) e x
+pub packs-as : {p q : Output Answer} {r : Answer} {out : List ℕ} → p ≡ q → Leaves p r out → Leaves q r out
+packs-as {r = r} {out} e x = subst (λ (y : Output Answer). Leaves y r out) e x
 
 -- a list of which no number is found faulty is clean
 pub fault-none : (counts list : List ℕ) → length list ≤ firstFault counts 0 0 list → firstFault counts 0 0 list ≡ length list
@@ -31,7 +31,7 @@ fault-none counts list h = omega (arith, fault-within counts 0 0 list)
 
 module _ (H : List ℕ → List ℕ) (counts list out : List ℕ) (n : Node) where
   pub list-faulty : firstFault counts 0 0 list < length list → {r : Answer} → r ≡ refused badList (firstFault counts 0 0 list)
-      → Packs (prunedOf H counts list n out) r out
+      → Leaves (prunedOf H counts list n out) r out
   unfolding prunedOf
   list-faulty h e = rw (lt-ltb (firstFault counts 0 0 list) (length list) h) (record { answered = e; written = refl })
 

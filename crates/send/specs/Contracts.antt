@@ -8,7 +8,7 @@ use Rattle.trees.specs.Rules.{labelBytes}
 use Rattle.tables.specs.Records.{TreeTable}
 use Rattle.tables.specs.Tables.{Columns, firstBad, sum}
 use Rattle.slips.specs.declared.answer.Answer.{Answer}
-use Rattle.slips.specs.Output.{Packs}
+use Rattle.outcomes.specs.Outcome.{Leaves}
 use Rattle.send.specs.Sent.{sentTree}
 
 -- a table of the form, whose area may be longer than the sum of lengths
@@ -30,4 +30,4 @@ SendTreeGives types counts lengths values l out r left =
     → (n : Node)
     → TreeTable n types counts lengths values
     → l ≡ label H n
-    → Packs (sentTree H n out) r left
+    → Leaves (sentTree H n out) r left

@@ -10,16 +10,17 @@ use Rattle.trees.specs.Rows.{Entry, rows}
 use Rattle.outcomes.specs.Refusals.{noRoom}
 use Rattle.codec.specs.Writing.{slipOf}
 use Rattle.slips.specs.Answers.{refused, taken}
-use Rattle.slips.specs.Output.{over, Packed, still}
+use Rattle.outcomes.specs.Outcome.{over, Output, still}
+use Rattle.slips.specs.declared.answer.Answer.{Answer}
 
 -- "11"
-abbrev pub sentTests : List Entry → List ℕ → List (Bool × Packed)
+abbrev pub sentTests : List Entry → List ℕ → List (Bool × Output Answer)
 sentTests es out = (ltb (length out) (length (slipOf es)), still (refused noRoom 0) out) ∷ []
 
 -- the slip of entries whose blocks and root label are told: 11, or "length, blocks and root label of the slip written"
-unfoldable pub sent : List Entry → ℕ → List ℕ → List ℕ → Packed
-sent es b l out = chain (sentTests es out) (record { answer = taken (length (slipOf es)) b l; bytes = over (slipOf es) out })
+unfoldable pub sent : List Entry → ℕ → List ℕ → List ℕ → Output Answer
+sent es b l out = chain (sentTests es out) (record { answer = taken (length (slipOf es)) b l; left = over (slipOf es) out })
 
 -- the slip of a tree
-abbrev pub sentTree : (List ℕ → List ℕ) → Node → List ℕ → Packed
+abbrev pub sentTree : (List ℕ → List ℕ) → Node → List ℕ → Output Answer
 sentTree H n out = sent (rows n) (blocks H n) (label H n) out

@@ -11,17 +11,17 @@ use Rattle.outcomes.specs.Refusals.{noRoom}
 use Rattle.codec.specs.Writing.{slipOf}
 use Rattle.slips.specs.declared.answer.Answer.{Answer}
 use Rattle.slips.specs.Answers.{refused, taken}
-use Rattle.slips.specs.Output.{over, Packed, Packs}
+use Rattle.outcomes.specs.Outcome.{over, Output, Leaves}
 use Rattle.send.specs.Contracts.{Sendable}
 use Rattle.send.specs.Sent.{sent, sentTree}
 
 module _ (es : List Entry) (b : ℕ) (l out : List ℕ) where
-  pub sent-roomless : length out < length (slipOf es) → {r : Answer} → r ≡ refused noRoom 0 → Packs (sent es b l out) r out
+  pub sent-roomless : length out < length (slipOf es) → {r : Answer} → r ≡ refused noRoom 0 → Leaves (sent es b l out) r out
   unfolding sent
   sent-roomless h e = rw (lt-ltb (length out) (length (slipOf es)) h) (record { answered = e; written = refl })
 
   pub sent-whole : length (slipOf es) ≤ length out → {r : Answer} {left : List ℕ} → r ≡ taken (length (slipOf es)) b l → left ≡ over (slipOf es) out
-      → Packs (sent es b l out) r left
+      → Leaves (sent es b l out) r left
   unfolding sent
   sent-whole h e w = rw (le-ltb (length out) (length (slipOf es)) h) (record { answered = e; written = w })
 
@@ -40,6 +40,6 @@ pub sent-tree :
     → es ≡ rows n
     → b ≡ blocks H n
     → l ≡ label H n
-    → Packs (sent es b l out) r left
-    → Packs (sentTree H n out) r left
-sent-tree H n es b l out {left} {r} p q e x = subst (λ (o : Packed). Packs o r left) (λ i. sent (p i) (q i) (e i) out) x
+    → Leaves (sent es b l out) r left
+    → Leaves (sentTree H n out) r left
+sent-tree H n es b l out {left} {r} p q e x = subst (λ (o : Output Answer). Leaves o r left) (λ i. sent (p i) (q i) (e i) out) x

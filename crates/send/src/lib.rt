@@ -8,7 +8,7 @@ use slips::answer;
 use slips::answer::Answer;
 use tables::limits::Slip;
 ghost use Rattle.tables.specs.Tables.{entries};
-ghost use Rattle.slips.specs.Output.{Packs};
+ghost use Rattle.outcomes.specs.Outcome.{Leaves};
 ghost use Rattle.send.specs.Contracts.{Sendable, SendTreeAsks, SendTreeGives};
 ghost use Rattle.send.specs.Sent.{sent};
 
@@ -23,7 +23,7 @@ pub fn send(
     out: &mut [u8],
 ) -> Answer
     requires { ⌜ Sendable (now types) (now counts) (now lengths) (now values) ⌝ }
-    ensures { λ r. ⌜ Packs (sent (entries (now (types .entry)) (now (counts .entry)) (now (lengths .entry)) (now (values .entry))) blocks label (now (out .entry))) r (now (out .exit)) ⌝ }
+    ensures { λ r. ⌜ Leaves (sent (entries (now (types .entry)) (now (counts .entry)) (now (lengths .entry)) (now (values .entry))) blocks label (now (out .entry))) r (now (out .exit)) ⌝ }
 {
     let bytes = (measure::measure(types, counts, lengths) + 7) / 8;
     if out.len() < bytes {

@@ -1,13 +1,11 @@
 -- What a call on slips answers, what a call with an output leaves in it, and what the check answers.
 pub mod Answers
-pub mod Output
 pub mod Check
 pub mod Opening
 pub mod HeaderLaws
 pub mod Verdicts
 pub mod Cases
 pub mod InTurn
-pub mod OneAnswer
 -- The tree of an accepted slip.
 pub mod SlipTrees
 pub mod SlipTree

@@ -13,27 +13,28 @@ use Rattle.titles.specs.declared.composed.Composed.{Composed}
 use Rattle.outcomes.specs.Refusals.{accepted, noRoom, titleLong}
 use Rattle.unicode.specs.Utf8.{decode}
 use Rattle.unicode.specs.Joining.{accepts}
-use Rattle.titles.specs.Compose.{text, refusal, acceptance, Outcome, outcome, Met, maxBytes}
+use Rattle.outcomes.specs.Outcome.{Output, Leaves}
+use Rattle.titles.specs.Compose.{text, refusal, acceptance, composeOf, maxBytes}
 use Rattle.titles.specs.Outcomes.{long, refused, short, taken, judged-accepts, accepts-judged}
 use Rattle.titles.specs.Scan.{Scanned}
 
 met :
-    (title out left : List ℕ) (r : Composed) (o : Outcome)
-    → outcome title out ≡ o
+    (title out left : List ℕ) (r : Composed) (o : Output Composed)
+    → composeOf title out ≡ o
     → r ≡ o .answer
-    → left ≡ o .bytes
-    → Met title out r left
+    → left ≡ o .left
+    → Leaves (composeOf title out) r left
 met title out left r o e p q =
     record {
-      answered = p ∙ sym (ap (λ (x : Outcome). x .answer) e);
-      written = q ∙ sym (ap (λ (x : Outcome). x .bytes) e);
+      answered = p ∙ sym (ap (λ (x : Output Composed). x .answer) e);
+      written = q ∙ sym (ap (λ (x : Output Composed). x .left) e);
     }
 
-pub met-long : (title out : List ℕ) (r : Composed) → maxBytes < length title → r ≡ refusal titleLong 0 → Met title out r out
+pub met-long : (title out : List ℕ) (r : Composed) → maxBytes < length title → r ≡ refusal titleLong 0 → Leaves (composeOf title out) r out
 met-long title out r over e = met title out out r _ (long title out (lt-ltb maxBytes (length title) over)) e refl
 
 module _ (title out buffer : List ℕ) (r : Composed) (scanned : Scanned title r buffer) (under : length title ≤ maxBytes) where
-  pub met-refused : (r .number ≡ accepted → ⊥) → Met title out r out
+  pub met-refused : (r .number ≡ accepted → ⊥) → Leaves (composeOf title out) r out
   met-refused some =
       let not-all =
       refuted (accepts (decode title))
@@ -67,7 +68,7 @@ module _ (title out buffer : List ℕ) (r : Composed) (scanned : Scanned title r
     pub part-long : r .length ≡ length (take (r .length) buffer)
     part-long = sym (length-take-le (r .length) buffer in-buffer)
 
-    pub met-short : (r′ : Composed) → length out < r .length → r′ ≡ refusal noRoom 0 → Met title out r′ out
+    pub met-short : (r′ : Composed) → length out < r .length → r′ ≡ refusal noRoom 0 → Leaves (composeOf title out) r′ out
     met-short r′ less e =
         met title out out r′ _
         (short title out (le-ltb maxBytes (length title) under) all (lt-ltb (length out) (length (text title)) (rw size at less)))
@@ -78,7 +79,7 @@ module _ (title out buffer : List ℕ) (r : Composed) (scanned : Scanned title r
         (left : List ℕ)
         → r .length ≤ length out
         → left ≡ take (length (take (r .length) buffer)) (take (r .length) buffer) ++ drop (length (take (r .length) buffer)) out
-        → Met title out r left
+        → Leaves (composeOf title out) r left
     met-taken left room e =
         met title out left r _
         (taken title (text title) out (le-ltb maxBytes (length title) under) all refl (rw size at room))

@@ -9,7 +9,8 @@ use Rattle.unicode.specs.Utf8.{width, encode, encodes, within, low, high, tail,
 use Rattle.unicode.specs.Repertoire.{member, marks, isMark, plain}
 use Rattle.unicode.specs.Pairs.{found, pairs}
 use Rattle.unicode.specs.Joining.{joined, pieces, outs, noneBad, accepts, composed}
-use Rattle.titles.specs.Compose.{text, fault, refusal, judged, refusedWith, acceptedWith, outcome}
+use Rattle.outcomes.specs.Outcome.{still}
+use Rattle.titles.specs.Compose.{text, fault, refusal, judged, acceptedWith, composeOf}
 use Rattle.titles.specs.Outcomes.{taken, refused}
 
 -- '45 CC 81 74 65 CC 81'
@@ -26,36 +27,36 @@ unfolding width encode encodes within low high tail twoBytes threeBytes fourByte
 computed title = text title
 
 -- ● '45 CC 81 74 65 CC 81 composes to C3 89 74 C3 A9.'
-pub loose-composes : (out : List ℕ) → 5 ≤ length out → outcome loose out ≡ acceptedWith whole out
+pub loose-composes : (out : List ℕ) → 5 ≤ length out → composeOf loose out ≡ acceptedWith whole out
 unfolding computed
 loose-composes out room = taken loose whole out refl refl refl room
 
 -- ● 'The same composed title returns itself.'
-pub whole-itself : (out : List ℕ) → 5 ≤ length out → outcome whole out ≡ acceptedWith whole out
+pub whole-itself : (out : List ℕ) → 5 ≤ length out → composeOf whole out ≡ acceptedWith whole out
 unfolding computed
 whole-itself out room = taken whole whole out refl refl refl room
 
 -- ● 'Empty gives empty.'
-pub empty-empty : (out : List ℕ) → outcome [] out ≡ acceptedWith [] out
+pub empty-empty : (out : List ℕ) → composeOf [] out ≡ acceptedWith [] out
 unfolding computed
 empty-empty out = taken [] [] out refl refl refl (omega arith)
 
 -- ● 'CC 81 alone: 20 at 0.'
-pub mark-alone : (out : List ℕ) → outcome (0xCC ∷ 0x81 ∷ []) out ≡ refusedWith (refusal looseMark 0) out
+pub mark-alone : (out : List ℕ) → composeOf (0xCC ∷ 0x81 ∷ []) out ≡ still (refusal looseMark 0) out
 unfolding computed
 mark-alone out = refused (0xCC ∷ 0x81 ∷ []) (refusal looseMark 0) out refl refl refl
 
 -- ● '41 CC 88 CC 81: 20 at 3.'
-pub second-mark : (out : List ℕ) → outcome (0x41 ∷ 0xCC ∷ 0x88 ∷ 0xCC ∷ 0x81 ∷ []) out ≡ refusedWith (refusal looseMark 3) out
+pub second-mark : (out : List ℕ) → composeOf (0x41 ∷ 0xCC ∷ 0x88 ∷ 0xCC ∷ 0x81 ∷ []) out ≡ still (refusal looseMark 3) out
 unfolding computed
 second-mark out = refused (0x41 ∷ 0xCC ∷ 0x88 ∷ 0xCC ∷ 0x81 ∷ []) (refusal looseMark 3) out refl refl refl
 
 -- ● 'C3: 18 at 0.'
-pub cut-short : (out : List ℕ) → outcome (0xC3 ∷ []) out ≡ refusedWith (refusal notUtf8 0) out
+pub cut-short : (out : List ℕ) → composeOf (0xC3 ∷ []) out ≡ still (refusal notUtf8 0) out
 unfolding computed
 cut-short out = refused (0xC3 ∷ []) (refusal notUtf8 0) out refl refl refl
 
 -- ● '7F: 19 at 0.'
-pub control : (out : List ℕ) → outcome (0x7F ∷ []) out ≡ refusedWith (refusal outsideRepertoire 0) out
+pub control : (out : List ℕ) → composeOf (0x7F ∷ []) out ≡ still (refusal outsideRepertoire 0) out
 unfolding computed
 control out = refused (0x7F ∷ []) (refusal outsideRepertoire 0) out refl refl refl

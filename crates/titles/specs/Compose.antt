@@ -6,6 +6,7 @@ use mathlib.Core.List.{List, [], _∷_, _++_}
 use lib.Dec.{ltb, eqb}
 use lib.ListN.{length, drop}
 use Rattle.outcomes.specs.Chain.{chain}
+use Rattle.outcomes.specs.Outcome.{Output, still, over}
 use Rattle.outcomes.specs.Refusals.{accepted, noRoom, titleLong, notUtf8, outsideRepertoire, looseMark}
 use Rattle.unicode.specs.Utf8.{ill, width, encodes, decode}
 use Rattle.unicode.specs.Repertoire.{isMark, allPlain}
@@ -38,34 +39,20 @@ judged p n (bad c ∷ ps) = refusal (fault c) p
 judged p n (one c ∷ ps) = judged (p + width c) (n + width c) ps
 judged p n (two l m ∷ ps) = judged (p + (width l + width m)) (n + width (joined l m)) ps
 
--- an answer, and what the buffer holds
-pub record Outcome : Type 0 where
-  pub answer : Composed
-  pub bytes : List ℕ
-
--- 'A refusal .. writes nothing.'
-abbrev pub refusedWith : Composed → List ℕ → Outcome
-refusedWith r out = record { answer = r; bytes = out }
-
--- 'An accepted call writes exactly its length; the rest of each buffer stays.'
-abbrev pub acceptedWith : List ℕ → List ℕ → Outcome
-acceptedWith t out = record { answer = acceptance (length t); bytes = t ++ drop (length t) out }
+-- an accepted title's composed bytes are written
+abbrev pub acceptedWith : List ℕ → List ℕ → Output Composed
+acceptedWith t out = record { answer = acceptance (length t); left = over t out }
 
 -- 'Composer: 17, then the first bad character, 18 before 19 before 20 there, then 11.'
-abbrev pub outcomeTests : List ℕ → List ℕ → List (Bool × Outcome)
-outcomeTests title out =
-    (ltb maxBytes (length title), refusedWith (refusal titleLong 0) out)
-    ∷ (not (accepts (decode title)), refusedWith (judged 0 0 (pieces (decode title))) out)
-    ∷ (ltb (length out) (length (text title)), refusedWith (refusal noRoom 0) out)
+abbrev pub composeTests : List ℕ → List ℕ → List (Bool × Output Composed)
+composeTests title out =
+    (ltb maxBytes (length title), still (refusal titleLong 0) out)
+    ∷ (not (accepts (decode title)), still (judged 0 0 (pieces (decode title))) out)
+    ∷ (ltb (length out) (length (text title)), still (refusal noRoom 0) out)
     ∷ []
 
-unfoldable pub outcome : List ℕ → List ℕ → Outcome
-outcome title out = chain (outcomeTests title out) (acceptedWith (text title) out)
-
--- what a call says and leaves: the outcome's answer, the outcome's bytes
-pub record Met (title out : List ℕ) (r : Composed) (left : List ℕ) : Type 0 where
-  pub answered : r ≡ outcome title out .answer
-  pub written : left ≡ outcome title out .bytes
+unfoldable pub composeOf : List ℕ → List ℕ → Output Composed
+composeOf title out = chain (composeTests title out) (acceptedWith (text title) out)
 
 -- 'A text value in a slip must already be composed: well-formed, in the repertoire, no mark.'
 unfoldable pub composedText : List ℕ → Bool

@@ -9,7 +9,9 @@ use Rattle.unicode.specs.Utf8.{scalar, encode, decode}
 use Rattle.unicode.specs.Repertoire.{isMark, inRepertoire}
 use Rattle.unicode.specs.Joining.{accepts}
 use Rattle.outcomes.specs.Refusals.{noRoom, titleLong, notUtf8, outsideRepertoire, looseMark}
-use Rattle.titles.specs.Compose.{text, refusal, Outcome, refusedWith, acceptedWith, maxBytes}
+use Rattle.outcomes.specs.Outcome.{Output, still}
+use Rattle.titles.specs.declared.composed.Composed.{Composed}
+use Rattle.titles.specs.Compose.{text, refusal, acceptedWith, maxBytes}
 
 -- what a number says of the bytes at its place
 pub data Wrong : ℕ → List ℕ → Type 0 where
@@ -27,17 +29,17 @@ pub record FirstBad (title : List ℕ) (number place : ℕ) : Type 0 where
   pub longest : (n : ℕ) → place < n → accepts (decode (take n title)) ≡ false
   pub wrong : Wrong number (drop place title)
 
-pub data Goes (title out : List ℕ) : Outcome → Type 0 where
+pub data Goes (title out : List ℕ) : Output Composed → Type 0 where
   -- 'title over 511 bytes as given'
-  long : maxBytes < length title → Goes title out (refusedWith (refusal titleLong 0) out)
+  long : maxBytes < length title → Goes title out (still (refusal titleLong 0) out)
   -- 18, 19 and 20
-  wrong : length title ≤ maxBytes → (k p : ℕ) → FirstBad title k p → Goes title out (refusedWith (refusal k p) out)
+  wrong : length title ≤ maxBytes → (k p : ℕ) → FirstBad title k p → Goes title out (still (refusal k p) out)
   -- 'output too short'
   short :
       length title ≤ maxBytes
       → accepts (decode title) ≡ true
       → length out < length (text title)
-      → Goes title out (refusedWith (refusal noRoom 0) out)
+      → Goes title out (still (refusal noRoom 0) out)
   taken :
       length title ≤ maxBytes
       → accepts (decode title) ≡ true

@@ -19,7 +19,7 @@ use Rattle.unicode.specs.Encodings.{front-encode}
 use Rattle.unicode.specs.Decoding.{length-encode, decode-next, decode-end, decode-append, decode-encodes, ill-formed-none, behind}
 use Rattle.unicode.specs.Composes.{letter-plain, joins-mark, pieces-join}
 use Rattle.unicode.specs.NfcTheorem.{accepts-in, mark-in}
-use Rattle.titles.specs.Compose.{text, fault, refusal, judged, outcome, maxBytes}
+use Rattle.titles.specs.Compose.{text, fault, refusal, judged, composeOf, maxBytes}
 use Rattle.titles.specs.Goes.{Wrong, broken, foreign, loose, FirstBad, Goes, long, wrong, short, taken}
 use Rattle.titles.specs.Outcomes as Outcomes
 use Rattle.titles.specs.Pieces.{pieces-bad}
@@ -274,7 +274,7 @@ first-bad-one {title} {k} {k′} {p} {p′} f g =
     let place : p ≡ p′ = omega arith in
     (wrong-one (f .wrong) (rw place (g .wrong)), place)
 
-pub compose-goes : (title out : List ℕ) → Goes title out (outcome title out)
+pub compose-goes : (title out : List ℕ) → Goes title out (composeOf title out)
 compose-goes title out =
     either (ltb maxBytes (length title))
     (λ o. rw (Outcomes.long title out o) (long (ltb-true maxBytes (length title) o)))

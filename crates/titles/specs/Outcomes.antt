@@ -15,11 +15,12 @@ use Rattle.unicode.specs.Repertoire.{isMark}
 use Rattle.unicode.specs.Decoding.{length-encode}
 use Rattle.titles.specs.declared.composed.Composed.{Composed}
 use Rattle.unicode.specs.Joining.{joined, Piece, bad, one, two, pieces, outs, noneBad, accepts, composed}
-use Rattle.titles.specs.Compose.{text, fault, judged, acceptance, refusal, refusedWith, acceptedWith, outcome, maxBytes}
+use Rattle.outcomes.specs.Outcome.{still}
+use Rattle.titles.specs.Compose.{text, fault, judged, acceptance, refusal, acceptedWith, composeOf, maxBytes}
 
 -- over the limit
-pub long : (title out : List ℕ) → ltb maxBytes (length title) ≡ true → outcome title out ≡ refusedWith (refusal titleLong 0) out
-unfolding outcome
+pub long : (title out : List ℕ) → ltb maxBytes (length title) ≡ true → composeOf title out ≡ still (refusal titleLong 0) out
+unfolding composeOf
 long title out over = rw over
 
 -- a bad character
@@ -28,8 +29,8 @@ pub refused :
     → ltb maxBytes (length title) ≡ false
     → accepts (decode title) ≡ false
     → judged 0 0 (pieces (decode title)) ≡ r
-    → outcome title out ≡ refusedWith r out
-unfolding outcome
+    → composeOf title out ≡ still r out
+unfolding composeOf
 refused title r out fits not-all e = rw (fits, not-all, e)
 
 -- no room
@@ -38,8 +39,8 @@ pub short :
     → ltb maxBytes (length title) ≡ false
     → accepts (decode title) ≡ true
     → ltb (length out) (length (text title)) ≡ true
-    → outcome title out ≡ refusedWith (refusal noRoom 0) out
-unfolding outcome
+    → composeOf title out ≡ still (refusal noRoom 0) out
+unfolding composeOf
 short title out fits all less = rw (fits, all, less)
 
 -- room
@@ -49,8 +50,8 @@ pub taken :
     → accepts (decode title) ≡ true
     → text title ≡ t
     → length t ≤ length out
-    → outcome title out ≡ acceptedWith t out
-unfolding outcome
+    → composeOf title out ≡ acceptedWith t out
+unfolding composeOf
 taken title t out fits all e room = rw (fits, all, e, le-ltb (length out) (length t) room)
 
 lengths : (n c : ℕ) (rest : List ℕ) → (n + width c) + length rest ≡ n + length (encode c ++ rest)

@@ -15,7 +15,8 @@ use Rattle.unicode.specs.Utf8.{scalar, scalars, width, encode, encodes, decode}
 use Rattle.unicode.specs.Repertoire.{isMark, plain, allPlain, allIn}
 use Rattle.unicode.specs.Nfc.{nfc}
 use Rattle.unicode.specs.Joining.{joined, accepts, composed}
-use Rattle.titles.specs.Compose.{text, acceptedWith, Outcome, outcome, Met, composedText, maxBytes}
+use Rattle.outcomes.specs.Outcome.{Output, Leaves}
+use Rattle.titles.specs.Compose.{text, acceptedWith, composeOf, composedText, maxBytes}
 use Rattle.unicode.specs.Bounds.{at-least, at-most, width-2}
 use Rattle.unicode.specs.Decoding.{decode-encodes, encodes-decode, length-encode}
 use Rattle.unicode.specs.Rows.{joint}
@@ -24,29 +25,25 @@ use Rattle.titles.specs.Outcomes.{long, refused, short, taken, judged-ac
 use Rattle.unicode.specs.Composes.{Composes, done, stay, join, letter-plain, joins-mark, accepts-composes}
 use Rattle.unicode.specs.NfcTheorem.{accepts-nfc, nfc-composed, equal-composed, composed-plain, plain-accepts, plain-composed}
 
--- the contract leaves one answer and one content of the buffer
-pub one-answer : (title out left left′ : List ℕ) (r r′ : Composed) → Met title out r left → Met title out r′ left′ → (r ≡ r′) × (left ≡ left′)
-one-answer title out left left′ r r′ p q = (p .answered ∙ sym (q .answered), p .written ∙ sym (q .written))
-
 -- an outcome with number 0 is an acceptance of all characters, with room
 pub record Taken (title out : List ℕ) : Type 0 where
   pub under : length title ≤ maxBytes
   pub all : accepts (decode title) ≡ true
   pub room : length (text title) ≤ length out
-  pub whole : outcome title out ≡ acceptedWith (text title) out
+  pub whole : composeOf title out ≡ acceptedWith (text title) out
 
-pub was-taken : (title out : List ℕ) → outcome title out .answer .number ≡ accepted → Taken title out
+pub was-taken : (title out : List ℕ) → composeOf title out .answer .number ≡ accepted → Taken title out
 was-taken title out z =
     either (ltb maxBytes (length title))
-    (λ p. absurd (omega (arith, ap (λ (o : Outcome). o .answer .number) (long title out p))))
+    (λ p. absurd (omega (arith, ap (λ (o : Output Composed). o .answer .number) (long title out p))))
     (λ p.
     let all =
     either (accepts (decode title)) (λ q. q)
-    (λ q. judged-accepts title (sym (ap (λ (o : Outcome). o .answer .number) (refused title _ out p q refl)) ∙ z))
+    (λ q. judged-accepts title (sym (ap (λ (o : Output Composed). o .answer .number) (refused title _ out p q refl)) ∙ z))
     in
     let room =
     either (ltb (length out) (length (text title)))
-    (λ q. absurd (omega (arith, ap (λ (o : Outcome). o .answer .number) (short title out p all q))))
+    (λ q. absurd (omega (arith, ap (λ (o : Output Composed). o .answer .number) (short title out p all q))))
     (λ q. ltb-false (length out) (length (text title)) q)
     in
     record {
@@ -59,8 +56,8 @@ was-taken title out z =
 -- 'A refusal .. writes nothing', and its length is 0
 pub refused-nothing :
     (title out : List ℕ)
-    → (outcome title out .answer .number ≡ accepted → ⊥)
-    → (outcome title out .bytes ≡ out) × (outcome title out .answer .length ≡ 0)
+    → (composeOf title out .answer .number ≡ accepted → ⊥)
+    → (composeOf title out .left ≡ out) × (composeOf title out .answer .length ≡ 0)
 refused-nothing title out some =
     either (ltb maxBytes (length title))
     (λ p. rw (long title out p) (refl, refl))
@@ -129,7 +126,7 @@ pub title-nfc :
     → allIn (decode title) ≡ true
     → allPlain (nfc (decode title)) ≡ true
     → length (encodes (nfc (decode title))) ≤ length out
-    → outcome title out ≡ acceptedWith (encodes (nfc (decode title))) out
+    → composeOf title out ≡ acceptedWith (encodes (nfc (decode title))) out
 unfolding text
 title-nfc title out under known e room =
     let a = accepts-nfc (decode title) ∙ and-both _ _ known e in
@@ -137,8 +134,8 @@ title-nfc title out under known e room =
 
 pub accepted-nfc :
     (title out : List ℕ)
-    → outcome title out .answer .number ≡ accepted
-    → (allIn (decode title) ≡ true) × (allPlain (nfc (decode title)) ≡ true) × (outcome title out ≡ acceptedWith (encodes (nfc (decode title))) out)
+    → composeOf title out .answer .number ≡ accepted
+    → (allIn (decode title) ≡ true) × (allPlain (nfc (decode title)) ≡ true) × (composeOf title out ≡ acceptedWith (encodes (nfc (decode title))) out)
 unfolding text
 accepted-nfc title out z =
     let t = was-taken title out z in
@@ -153,8 +150,8 @@ pub equal-nfc :
     → length y ≤ maxBytes
     → allIn (decode y) ≡ true
     → nfc (decode x) ≡ nfc (decode y)
-    → outcome x out .answer .number ≡ accepted
-    → outcome y out ≡ outcome x out
+    → composeOf x out .answer .number ≡ accepted
+    → composeOf y out ≡ composeOf x out
 unfolding text
 equal-nfc x y out ux uy known e z =
     let t = was-taken x out z in
@@ -172,7 +169,7 @@ pub composed-itself :
     → composedText value ≡ true
     → length value ≤ maxBytes
     → length value ≤ length out
-    → outcome value out ≡ acceptedWith value out
+    → composeOf value out ≡ acceptedWith value out
 unfolding composedText text
 composed-itself value out e under room =
     let same : encodes (composed (decode value)) ≡ value =
@@ -188,9 +185,9 @@ text-composed title a = rw (decode-text title a) (composed-plain (decode title) 
 -- and so composes to itself
 pub output-itself :
     (title out again : List ℕ)
-    → outcome title out .answer .number ≡ accepted
+    → composeOf title out .answer .number ≡ accepted
     → length (text title) ≤ length again
-    → outcome (text title) again ≡ acceptedWith (text title) again
+    → composeOf (text title) again ≡ acceptedWith (text title) again
 output-itself title out again z room =
     let t = was-taken title out z in
     composed-itself (text title) again (text-composed title (t .all)) (omega (arith, text-shorter title (t .all), t .under)) room
@@ -198,14 +195,14 @@ output-itself title out again z room =
 -- a title that composes to itself is composed text, within the limit
 pub itself-composed :
     (value out : List ℕ)
-    → outcome value out ≡ acceptedWith value out
+    → composeOf value out ≡ acceptedWith value out
     → (composedText value ≡ true) × (length value ≤ maxBytes)
 itself-composed value out e =
-    let t = was-taken value out (ap (λ (o : Outcome). o .answer .number) e) in
+    let t = was-taken value out (ap (λ (o : Output Composed). o .answer .number) e) in
     let both = sym (t .whole) ∙ e in
-    let size : length (text value) ≡ length value = ap (λ (o : Outcome). o .answer .length) both in
+    let size : length (text value) ≡ length value = ap (λ (o : Output Composed). o .answer .length) both in
     let bytes : text value ++ drop (length (text value)) out ≡ value ++ drop (length value) out =
-    ap (λ (o : Outcome). o .bytes) both
+    ap (λ (o : Output Composed). o .left) both
     in
     let same : text value ≡ value =
     sym (take-at (text value) _ (length value) size)
@@ -215,10 +212,10 @@ itself-composed value out e =
     (rw same at (text-composed value (t .all)), t .under)
 
 -- no output is over the limit
-pub length-most : (title out left : List ℕ) (r : Composed) → Met title out r left → r .length ≤ maxBytes
+pub length-most : (title out left : List ℕ) (r : Composed) → Leaves (composeOf title out) r left → r .length ≤ maxBytes
 length-most title out left r h =
     rw (h .answered)
-    (either (eqb (outcome title out .answer .number) accepted)
+    (either (eqb (composeOf title out .answer .number) accepted)
     (λ z.
     let t = was-taken title out (eqb-true _ accepted z) in
     rw (t .whole) (omega (arith, t .under, text-shorter title (t .all))))

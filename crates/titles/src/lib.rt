@@ -8,7 +8,8 @@ use characters::utf8;
 pub use composed::Composed;
 use outcomes::Refusal;
 ghost use mathlib.Core.Path.{_≡_};
-ghost use Rattle.titles.specs.Compose.{Met, composedText};
+ghost use Rattle.outcomes.specs.Outcome.{Leaves};
+ghost use Rattle.titles.specs.Compose.{composeOf, composedText};
 
 pub struct Title {}
 
@@ -19,7 +20,7 @@ impl Title {
 
 // Composes `title` into `out`. The text is made in a local buffer first: a refusal writes nothing.
 pub fn compose(title: &[u8], out: &mut [u8]) -> Composed
-    ensures { λ r. ⌜ Met (now (title .entry)) (now (out .entry)) r (now (out .exit)) ⌝ }
+    ensures { λ r. ⌜ Leaves (composeOf (now (title .entry)) (now (out .entry))) r (now (out .exit)) ⌝ }
 {
     if Title::MAX_BYTES < title.len() {
         return scan::refused(Refusal::TITLE_LONG, 0);

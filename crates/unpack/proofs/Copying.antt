@@ -10,12 +10,12 @@ use lib.Dec.{ltb}
 use lib.ListN.{length, take, drop, getD, set}
 use lib.Seq.{drop-cons, take-suc, set-at, append-snoc, length-take-le, take-length}
 use Rattle.lists.specs.TestsLaws.{or-left, or-right}
-use Rattle.tables.specs.Tables.{Table}
+use Rattle.tables.specs.Tables.{table, Table}
 use Rattle.outcomes.specs.Refusals.{accepted, noRoom}
 use Rattle.slips.specs.declared.answer.Answer.{Answer}
 use Rattle.slips.specs.Answers.{refused}
-use Rattle.slips.specs.Output.{over}
-use Rattle.unpack.specs.Unpack.{lacksRoom, handedOf, Leaves}
+use Rattle.outcomes.specs.Outcome.{over, Leaves}
+use Rattle.unpack.specs.Unpack.{lacksRoom, handedOf}
 
 -- what `bytes::copy` leaves
 pub copied-whole : (x y : List ℕ) → take (length x) x ++ drop (length x) y ≡ over x y
@@ -88,11 +88,11 @@ module _ (a r : Answer) (t b : Table) (types counts lengths values : List ℕ) w
       → counts ≡ b .counts
       → lengths ≡ b .lengths
       → values ≡ b .values
-      → Leaves (handedOf a t b) r types counts lengths values
+      → Leaves (handedOf a t b) r (table types counts lengths values)
   unfolding handedOf
   handed-refused h e p q u v =
       rw (ne-eqb (a .number) accepted h)
-      (record { answered = e; types-left = p; counts-left = q; lengths-left = u; values-left = v })
+      (record { answered = e; written = λ i. table (p i) (q i) (u i) (v i) })
 
   module _ (h : a .number ≡ accepted) where
     pub handed-lacking :
@@ -102,11 +102,11 @@ module _ (a r : Answer) (t b : Table) (types counts lengths values : List ℕ) w
         → counts ≡ b .counts
         → lengths ≡ b .lengths
         → values ≡ b .values
-        → Leaves (handedOf a t b) r types counts lengths values
+        → Leaves (handedOf a t b) r (table types counts lengths values)
     unfolding handedOf
     handed-lacking l e p q u v =
         rw (eq-eqb (a .number) accepted h, l)
-        (record { answered = e; types-left = p; counts-left = q; lengths-left = u; values-left = v })
+        (record { answered = e; written = λ i. table (p i) (q i) (u i) (v i) })
 
     pub handed-taken :
         lacksRoom t (length (b .types)) (length (b .counts)) (length (b .lengths)) (length (b .values)) ≡ false
@@ -115,8 +115,8 @@ module _ (a r : Answer) (t b : Table) (types counts lengths values : List ℕ) w
         → counts ≡ over (t .counts) (b .counts)
         → lengths ≡ over (t .lengths) (b .lengths)
         → values ≡ over (t .values) (b .values)
-        → Leaves (handedOf a t b) r types counts lengths values
+        → Leaves (handedOf a t b) r (table types counts lengths values)
     unfolding handedOf
     handed-taken l e p q u v =
         rw (eq-eqb (a .number) accepted h, l)
-        (record { answered = e; types-left = p; counts-left = q; lengths-left = u; values-left = v })
+        (record { answered = e; written = λ i. table (p i) (q i) (u i) (v i) })

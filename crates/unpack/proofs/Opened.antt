@@ -9,7 +9,8 @@ use Rattle.slips.specs.declared.answer.Answer.{Answer}
 use Rattle.slips.specs.declared.open.Opened.{Opened}
 use Rattle.slips.specs.Check.{readingOf}
 use Rattle.slips.specs.Opening.{Opens}
-use Rattle.unpack.specs.Unpack.{tableOf, handedOf, Leaves}
+use Rattle.outcomes.specs.Outcome.{Leaves}
+use Rattle.unpack.specs.Unpack.{tableOf, handedOf}
 use Rattle.unpack.specs.CellsLaws.{table-back}
 
 -- the table opened is that of the rows read
@@ -28,6 +29,6 @@ opened-table {s} {r} {types} {counts} {lengths} {values} o a b c =
 
 -- the same answer and the same table are handed out alike
 pub handed-as : {a a′ r : Answer} {t t′ : Table} (b : Table) {types counts lengths values : List ℕ} → a ≡ a′ → t ≡ t′
-    → Leaves (handedOf a t b) r types counts lengths values → Leaves (handedOf a′ t′ b) r types counts lengths values
+    → Leaves (handedOf a t b) r (table types counts lengths values) → Leaves (handedOf a′ t′ b) r (table types counts lengths values)
 handed-as {r = r} b {types} {counts} {lengths} {values} e f l =
-    subst₂ (λ (x : Answer) (y : Table). Leaves (handedOf x y b) r types counts lengths values) e f l
+    subst₂ (λ (x : Answer) (y : Table). Leaves (handedOf x y b) r (table types counts lengths values)) e f l

@@ -2,4 +2,3 @@
 pub mod Unpack
 pub mod CellsLaws
 pub mod UnpackLaws
-pub mod OneAnswer

@@ -11,14 +11,9 @@ use Rattle.outcomes.specs.Refusals.{accepted, noRoom}
 use Rattle.tables.specs.Tables.{Table, sum}
 use Rattle.slips.specs.declared.answer.Answer.{Answer}
 use Rattle.slips.specs.Answers.{refused}
-use Rattle.slips.specs.Output.{over}
+use Rattle.outcomes.specs.Outcome.{Outcome, over}
 use Rattle.slips.specs.Check.{readingOf, checkOf}
 use Rattle.tables.specs.Cells.{typeCell, countCell, lengthCell, valuesOf}
-
--- an answer, and what the buffers hold
-pub record Unpacked : Type 0 where
-  pub answer : Answer
-  pub buffers : Table
 
 -- one of the four is shorter than what it is to hold
 unfoldable pub lacksRoom : Table → ℕ → ℕ → ℕ → ℕ → Bool
@@ -49,28 +44,20 @@ tableIn n b =
     }
 
 -- "slip, 11": an answer to a slip, and its table for the buffers b
-abbrev pub handedTests : Answer → Table → Table → List (Bool × Unpacked)
+abbrev pub handedTests : Answer → Table → Table → List (Bool × Outcome Answer Table)
 handedTests a t b =
-    (not (eqb (a .number) accepted), record { answer = a; buffers = b })
-    ∷ (lacksRoom t (length (b .types)) (length (b .counts)) (length (b .lengths)) (length (b .values)), record { answer = refused noRoom 0; buffers = b })
+    (not (eqb (a .number) accepted), record { answer = a; left = b })
+    ∷ (lacksRoom t (length (b .types)) (length (b .counts)) (length (b .lengths)) (length (b .values)), record { answer = refused noRoom 0; left = b })
     ∷ []
 
-unfoldable pub handedOf : Answer → Table → Table → Unpacked
-handedOf a t b = chain (handedTests a t b) (record { answer = a; buffers = overAll t b })
+unfoldable pub handedOf : Answer → Table → Table → Outcome Answer Table
+handedOf a t b = chain (handedTests a t b) (record { answer = a; left = overAll t b })
 
 -- the table of a list of entries
 abbrev pub tableOf : List Entry → Table
 tableOf es = record { types = map typeCell es; counts = map countCell es; lengths = map lengthCell es; values = valuesOf es }
 
--- an answer r and buffers at exit are the outcome's
-pub record Leaves (u : Unpacked) (r : Answer) (types counts lengths values : List ℕ) : Type 0 where
-  pub answered : r ≡ u .answer
-  pub types-left : types ≡ u .buffers .types
-  pub counts-left : counts ≡ u .buffers .counts
-  pub lengths-left : lengths ≡ u .buffers .lengths
-  pub values-left : values ≡ u .buffers .values
-
 module _ (H : List ℕ → List ℕ) (composed : List ℕ → Bool) where
   -- the unpacking of a slip into four buffers
-  unfoldable pub unpackOf : List ℕ → Table → Unpacked
+  unfoldable pub unpackOf : List ℕ → Table → Outcome Answer Table
   unpackOf s b = handedOf (checkOf H composed s) (tableOf (readingOf s .rows)) b

@@ -11,7 +11,7 @@ use lib.Seq.{take-at}
 use Rattle.outcomes.specs.Refusals.{accepted}
 use Rattle.tables.specs.Tables.{Table, sum, Formed}
 use Rattle.slips.specs.declared.answer.Answer.{Answer}
-use Rattle.slips.specs.Output.{over}
+use Rattle.outcomes.specs.Outcome.{over}
 use Rattle.unpack.specs.Unpack.{lacksRoom, overAll, handedOf, tableIn}
 
 -- four buffers with room for a table
@@ -22,7 +22,7 @@ pub record Room (t b : Table) : Type 0 where
   pub values : length (t .values) ≤ length (b .values)
 
 -- an accepted slip's table is handed out wherever it has room
-pub handed-out : (a : Answer) (t b : Table) → a .number ≡ accepted → Room t b → handedOf a t b ≡ record { answer = a; buffers = overAll t b }
+pub handed-out : (a : Answer) (t b : Table) → a .number ≡ accepted → Room t b → handedOf a t b ≡ record { answer = a; left = overAll t b }
 unfolding handedOf lacksRoom
 handed-out a t b e r =
     rw (
@@ -36,7 +36,7 @@ handed-out a t b e r =
 -- and nothing else is accepted
 pub record Handed (a : Answer) (t b : Table) : Type 0 where
   pub taken : a .number ≡ accepted
-  pub is : handedOf a t b ≡ record { answer = a; buffers = overAll t b }
+  pub is : handedOf a t b ≡ record { answer = a; left = overAll t b }
 
 pub handed-told : (a : Answer) (t b : Table) → handedOf a t b .answer .number ≡ accepted → Handed a t b
 unfolding handedOf

@@ -6,8 +6,8 @@ ghost use mathlib.Core.Path.{_≡_};
 ghost use Prim.Native.Nat.{_≤_};
 ghost use lib.ListN.{length};
 ghost use Rattle.tables.specs.Tables.{table};
-ghost use Rattle.slips.specs.Output.{over};
-ghost use Rattle.unpack.specs.Unpack.{Leaves, handedOf, lacksRoom};
+ghost use Rattle.outcomes.specs.Outcome.{over, Leaves};
+ghost use Rattle.unpack.specs.Unpack.{handedOf, lacksRoom};
 
 fn copy_cells(cells: &[u16], out: &mut [u16])
     requires { ⌜ length (now cells) ≤ length (now out) ⌝ }
@@ -56,7 +56,7 @@ pub fn hand_out(
     lengths_out: &mut [u16],
     values_out: &mut [u8],
 ) -> Answer
-    ensures { λ r. ⌜ Leaves (handedOf a (table (now (types .entry)) (now (counts .entry)) (now (lengths .entry)) (now (values .entry))) (table (now («types_out» .entry)) (now («counts_out» .entry)) (now («lengths_out» .entry)) (now («values_out» .entry)))) r (now («types_out» .exit)) (now («counts_out» .exit)) (now («lengths_out» .exit)) (now («values_out» .exit)) ⌝ }
+    ensures { λ r. ⌜ Leaves (handedOf a (table (now (types .entry)) (now (counts .entry)) (now (lengths .entry)) (now (values .entry))) (table (now («types_out» .entry)) (now («counts_out» .entry)) (now («lengths_out» .entry)) (now («values_out» .entry)))) r (table (now («types_out» .exit)) (now («counts_out» .exit)) (now («lengths_out» .exit)) (now («values_out» .exit))) ⌝ }
 {
     if a.number != Refusal::ACCEPTED {
         return a;

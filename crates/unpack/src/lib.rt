@@ -14,7 +14,8 @@ ghost use Rattle.trees.specs.Rules.{maxBytes, maxNodes};
 ghost use Rattle.tables.specs.Tables.{table};
 ghost use Rattle.slips.specs.Check.{readingOf, bodyOf};
 ghost use Rattle.slips.specs.Opening.{Counted};
-ghost use Rattle.unpack.specs.Unpack.{Leaves, handedOf, tableOf, unpackOf};
+ghost use Rattle.outcomes.specs.Outcome.{Leaves};
+ghost use Rattle.unpack.specs.Unpack.{handedOf, tableOf, unpackOf};
 
 // A slip whose header is taken.
 fn unpack_taken(
@@ -26,7 +27,7 @@ fn unpack_taken(
     values_out: &mut [u8],
 ) -> Answer
     requires { ⌜ Counted (now s) n maxBytes maxNodes ⌝ }
-    ensures { λ r. ⌜ Leaves (handedOf (bodyOf Sha256.label composedText (now (s .entry))) (tableOf (readingOf (now (s .entry)) .rows)) (table (now («types_out» .entry)) (now («counts_out» .entry)) (now («lengths_out» .entry)) (now («values_out» .entry)))) r (now («types_out» .exit)) (now («counts_out» .exit)) (now («lengths_out» .exit)) (now («values_out» .exit)) ⌝ }
+    ensures { λ r. ⌜ Leaves (handedOf (bodyOf Sha256.label composedText (now (s .entry))) (tableOf (readingOf (now (s .entry)) .rows)) (table (now («types_out» .entry)) (now («counts_out» .entry)) (now («lengths_out» .entry)) (now («values_out» .entry)))) r (table (now («types_out» .exit)) (now («counts_out» .exit)) (now («lengths_out» .exit)) (now («values_out» .exit))) ⌝ }
 {
     let mut types = [0u16; Slip::MAX_NODES];
     let mut counts = [0u16; Slip::MAX_NODES];
@@ -65,7 +66,7 @@ pub fn unpack(
     lengths_out: &mut [u16],
     values_out: &mut [u8],
 ) -> Answer
-    ensures { λ r. ⌜ Leaves (unpackOf Sha256.label composedText (now (s .entry)) (table (now («types_out» .entry)) (now («counts_out» .entry)) (now («lengths_out» .entry)) (now («values_out» .entry)))) r (now («types_out» .exit)) (now («counts_out» .exit)) (now («lengths_out» .exit)) (now («values_out» .exit)) ⌝ }
+    ensures { λ r. ⌜ Leaves (unpackOf Sha256.label composedText (now (s .entry)) (table (now («types_out» .entry)) (now («counts_out» .entry)) (now («lengths_out» .entry)) (now («values_out» .entry)))) r (table (now («types_out» .exit)) (now («counts_out» .exit)) (now («lengths_out» .exit)) (now («values_out» .exit))) ⌝ }
 {
     let h = header::header_of(s);
     if h.number != Refusal::ACCEPTED {
