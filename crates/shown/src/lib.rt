@@ -4,32 +4,51 @@ use lines::parts;
 use outcomes::Refusal;
 use slips::answer::Answer;
 use slips::header;
+use slips::open;
+use tables::areas::Full;
 use tables::limits::Slip;
+ghost use Rattle.slips.specs.Opening.{Counted};
+ghost use Rattle.trees.specs.Rules.{maxBytes, maxNodes};
 
-pub fn slip(text: &mut [u8; page::BYTES], from: usize, slip: &[u8]) -> usize {
+pub fn slip(text: &mut [u8; page::BYTES], from: usize, s: &[u8]) -> usize {
+    let h = header::header_of(s);
+    if h.number != Refusal::ACCEPTED {
+        return refused(text, from, h.number, 0);
+    }
+    let n = h.count;
+    opened(text, from, s, n)
+}
+
+fn refused(text: &mut [u8; page::BYTES], from: usize, number: usize, place: usize) -> usize {
+    page::numbered(text, from, b"refused @ @\n", [number, place, 0])
+}
+
+fn opened(text: &mut [u8; page::BYTES], from: usize, s: &[u8], n: usize) -> usize
+    requires { ⌜ Counted (now s) n maxBytes maxNodes ⌝ }
+{
     let mut types = [0u16; Slip::MAX_NODES];
     let mut counts = [0u16; Slip::MAX_NODES];
     let mut lengths = [0u16; Slip::MAX_NODES];
     let mut values = [0u8; Slip::MAX_BYTES];
-    let a = unpack::unpack(slip, &mut types, &mut counts, &mut lengths, &mut values);
-    let n = nodes(slip, a.number);
-    let at = first(text, from, n, a);
+    let mut labels = [0u8; Full::LABELS];
+    let o = open::open_in(
+        s,
+        n,
+        &mut types,
+        &mut counts,
+        &mut lengths,
+        &mut values,
+        &mut labels,
+    );
+    let a = o.answer;
+    if a.number != Refusal::ACCEPTED {
+        return refused(text, from, a.number, a.place);
+    }
+    let at = heading(text, from, n, a);
     pairs(text, at, parts::cells(&types, 0, n), &lengths, &values)
 }
 
-// How many nodes are shown: none of a slip that was refused.
-fn nodes(slip: &[u8], refusal: usize) -> usize {
-    if refusal != Refusal::ACCEPTED {
-        return 0;
-    }
-    let h = header::header_of(slip);
-    h.count
-}
-
-fn first(text: &mut [u8; page::BYTES], from: usize, nodes: usize, a: Answer) -> usize {
-    if a.number != Refusal::ACCEPTED {
-        return page::numbered(text, from, b"refused @ @\n", [a.number, a.place, 0]);
-    }
+fn heading(text: &mut [u8; page::BYTES], from: usize, nodes: usize, a: Answer) -> usize {
     let label = a.label;
     let at = page::numbered(
         text,

@@ -2,7 +2,7 @@
 use Prim.Native.Nat.{ℕ, _*_, _^_, _≤_, _<_}
 use mathlib.Core.Bool.{Bool, false, not}
 use mathlib.Core.List.{List}
-use mathlib.Core.Path.{_≡_, refl, sym}
+use mathlib.Core.Path.{_≡_, refl, sym, ap, _∙_, subst}
 use native.Mathlib.Omega.{arith}
 use borrow.Author.Tests.{lt-ltb, le-ltb, eq-eqb, ne-eqb, ltb-false, eqb-true, not-false}
 use lib.Dec.{ltb, eqb}
@@ -15,6 +15,7 @@ use Rattle.bits.specs.FieldLaws.{num-small}
 use Rattle.trees.specs.Rules.{maxBytes, maxNodes}
 use Rattle.tables.specs.Limits.{edition, editionBits, countBits}
 use Rattle.outcomes.specs.Refusals.{accepted, tooLong, cutShort, otherEdition, noNodes}
+use Rattle.slips.specs.declared.header.Header.{Header}
 use Rattle.slips.specs.Answers.{refused}
 use Rattle.slips.specs.Check.{headerBits, editionOf, countOf, headerTests, headerOf, bodyOf, checkOf}
 use Rattle.slips.specs.Opening.{Counted}
@@ -89,6 +90,11 @@ header-told s e =
       counted = t .3;
       few = rw (t .3) (count-few s);
     }
+
+-- a header that was read and is taken
+pub header-read : {s : List ℕ} {h : Header} → h ≡ headerOf s → h .number ≡ accepted → Counted s (h .count) maxBytes maxNodes
+header-read {s} e a =
+    subst (λ (x : Header). Counted s (x .count) maxBytes maxNodes) (sym e) (header-told s (sym (ap (λ (x : Header). x .number) e) ∙ a))
 
 pub header-edition-is : (s : List ℕ) → headerOf s .number ≡ accepted → editionOf s ≡ edition
 header-edition-is s e = eqb-true (editionOf s) edition (not-false (eqb (editionOf s) edition) (header-passed s e .2))

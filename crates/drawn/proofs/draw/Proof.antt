@@ -2,7 +2,7 @@
 use mathlib.Core.Path.{sym, ap, _∙_}
 use Rattle.slips.specs.declared.header.Header.{Header}
 use Rattle.slips.specs.Answers.{refused}
-use Rattle.slips.specs.HeaderLaws.{header-told, check-refused, check-body}
+use Rattle.slips.specs.HeaderLaws.{header-read, check-refused, check-body}
 use borrow.Author.Needs.{needs}
 use Rattle.drawn.proofs.draw.Statement.{statement}
 use Rattle.drawn.proofs.draw.Tie as tie
@@ -13,10 +13,7 @@ returns c =
     c .refused .ensures ∙ ap (λ (h : Header). refused (h .number) 0) e ∙ check-refused _ _ _ (λ q. c .before .if1 .taken (ap (λ (h : Header). h .number) e ∙ q))
 
 opened-requires : tie.Need-opened-requires
-opened-requires c κs =
-    let e = c .before .before .header-of .ensures in
-    let t = header-told _ (sym (ap (λ (h : Header). h .number) e) ∙ c .if1 .left) in
-    record { head = t .head; long = t .long; counted = ap (λ (h : Header). h .count) e ∙ t .counted; few = rw (ap (λ (h : Header). h .count) e) (t .few) }
+opened-requires c κs = header-read (c .before .before .header-of .ensures) (c .if1 .left)
 
 returns-2 : tie.Need-returns-2
 returns-2 c =

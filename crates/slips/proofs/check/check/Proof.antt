@@ -1,7 +1,7 @@
 use mathlib.Core.Path.{sym, ap, _∙_}
 use Rattle.slips.specs.declared.header.Header.{Header}
 use Rattle.slips.specs.Answers.{refused}
-use Rattle.slips.specs.HeaderLaws.{header-told, check-refused, check-body}
+use Rattle.slips.specs.HeaderLaws.{header-told, header-read, check-refused, check-body}
 use borrow.Author.Needs.{needs}
 use Rattle.slips.proofs.check.check.Statement.{statement}
 use Rattle.slips.proofs.check.check.Tie as tie
@@ -22,10 +22,7 @@ returns-2 c =
     c .small .ensures ∙ check-body _ _ _ (sym (ap (λ (h : Header). h .number) (c .before .before .before .before .before .header-of .ensures)) ∙ c .before .before .before .if1 .left)
 
 large-requires : tie.Need-large-requires
-large-requires c κs =
-    let e = c .before .before .before .header-of .ensures in
-    let t = header-told _ (sym (ap (λ (h : Header). h .number) e) ∙ c .before .if1 .left) in
-    record { head = t .head; long = t .long; counted = ap (λ (h : Header). h .count) e ∙ t .counted; few = rw (ap (λ (h : Header). h .count) e) (t .few) }
+large-requires c κs = header-read (c .before .before .before .header-of .ensures) (c .before .if1 .left)
 
 returns-3 : tie.Need-returns-3
 returns-3 c =
