@@ -18,7 +18,7 @@ fn byte(s: &[u8], i: usize) -> u32
 
 // The bounds of the second byte after the first byte `a`.
 fn low_of(a: u32) -> u32
-    ensures { λ r. ⌜ (r ≡ low a) × (128 ≤ r) ⌝ }
+    ensures { λ r. ⌜ (r ≡ low a) × (0x80 ≤ r) ⌝ }
 {
     match a {
         0xE0 => 0xA0,
@@ -28,7 +28,7 @@ fn low_of(a: u32) -> u32
 }
 
 fn high_of(a: u32) -> u32
-    ensures { λ r. ⌜ (r ≡ high a) × (r ≤ 191) ⌝ }
+    ensures { λ r. ⌜ (r ≡ high a) × (r ≤ 0xBF) ⌝ }
 {
     match a {
         0xED => 0x9F,
@@ -47,7 +47,7 @@ fn is_within(lo: u32, hi: u32, b: u32) -> bool
 }
 
 fn two(a: u32, b: u32) -> u32
-    requires { ⌜ a < 224 ⌝ }
+    requires { ⌜ a < 0xE0 ⌝ }
     ensures { λ r. ⌜ r ≡ twoBytes a b ⌝ }
 {
     if a < 0xC2 {
@@ -60,7 +60,7 @@ fn two(a: u32, b: u32) -> u32
 }
 
 fn three(a: u32, b: u32, c: u32) -> u32
-    requires { ⌜ (224 ≤ a) × (a < 240) ⌝ }
+    requires { ⌜ (0xE0 ≤ a) × (a < 0xF0) ⌝ }
     ensures { λ r. ⌜ r ≡ threeBytes a b c ⌝ }
 {
     if !is_within(low_of(a), high_of(a), b) {
@@ -73,7 +73,7 @@ fn three(a: u32, b: u32, c: u32) -> u32
 }
 
 fn four(a: u32, b: u32, c: u32, d: u32) -> u32
-    requires { ⌜ 240 ≤ a ⌝ }
+    requires { ⌜ 0xF0 ≤ a ⌝ }
     ensures { λ r. ⌜ r ≡ fourBytes a b c d ⌝ }
 {
     if 0xF4 < a {
@@ -113,7 +113,7 @@ pub fn first(s: &[u8], at: usize) -> u32
 
 // The width of a character of the repertoire.
 pub fn width(c: u32) -> usize
-    requires { ⌜ c < 2048 ⌝ }
+    requires { ⌜ c < 0x800 ⌝ }
     ensures { λ r. ⌜ r ≡ Rattle.unicode.specs.Utf8.width c ⌝ }
 {
     if c < 0x80 { 1 } else { 2 }
@@ -121,7 +121,7 @@ pub fn width(c: u32) -> usize
 
 // Puts a character of the repertoire into `text` at `n`, and answers where it ends.
 pub fn put(text: &mut [u8], n: usize, c: u32) -> usize
-    requires { ⌜ (c < 2048) × (n + Rattle.unicode.specs.Utf8.width c ≤ length (now text)) ⌝ }
+    requires { ⌜ (c < 0x800) × (n + Rattle.unicode.specs.Utf8.width c ≤ length (now text)) ⌝ }
     ensures { λ r. ⌜ (r ≡ n + Rattle.unicode.specs.Utf8.width c) × (take r (now (text .exit)) ≡ take n (now (text .entry)) ++ encode c) ⌝ }
 {
     if c < 0x80 {

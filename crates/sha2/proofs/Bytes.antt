@@ -51,7 +51,7 @@ marked :
     (last area : List ℕ)
     → length last < 128
     → area ≡ set (last ++ drop (length last) (blank 128)) (length last) 128
-    → area ≡ (last ++ (128 ∷ [])) ++ blank (127 - length last)
+    → area ≡ (last ++ (0x80 ∷ [])) ++ blank (127 - length last)
 marked last area few e =
     let n : 128 ≡ length last + suc (127 - length last) = omega arith in
     let behind : drop (length last) (blank 128) ≡ 0 ∷ blank (127 - length last) =
@@ -65,10 +65,10 @@ marked last area few e =
 front :
     (last area : List ℕ) (k : ℕ)
     → length last + 1 + k ≤ 128
-    → area ≡ (last ++ (128 ∷ [])) ++ blank (127 - length last)
-    → take (length last + 1 + k) area ≡ (last ++ (128 ∷ [])) ++ blank k
+    → area ≡ (last ++ (0x80 ∷ [])) ++ blank (127 - length last)
+    → take (length last + 1 + k) area ≡ (last ++ (0x80 ∷ [])) ++ blank k
 front last area k few e =
-    let n : length last + 1 + k ≡ length (last ++ (128 ∷ [])) + k = omega (arith, length-append last (128 ∷ [])) in
+    let n : length last + 1 + k ≡ length (last ++ (0x80 ∷ [])) + k = omega (arith, length-append last (0x80 ∷ [])) in
     let m : 127 - length last ≡ k + (127 - length last - k) = omega arith in
     rw (n, e, take-append-add, m, take-blank)
 
@@ -87,7 +87,7 @@ closing-laid last area laid field rest bits end e few most qa pb pl =
     let pa : area ≡ set (last ++ drop (length last) (blank 128)) (length last) 128 =
     qa ∙ rw (e, take-length) in
     let k : ℕ = end - rest - 9 in
-    let is : area ≡ (last ++ (128 ∷ [])) ++ blank (127 - length last) = marked last area (omega arith) pa in
+    let is : area ≡ (last ++ (0x80 ∷ [])) ++ blank (127 - length last) = marked last area (omega arith) pa in
     let eight : length field ≡ 8 = ap length pb ∙ length-bytes 8 bits in
     let to : end ≡ end - 8 + length field = omega arith in
     let at : end - 8 ≡ length last + 1 + k = omega arith in

@@ -20,16 +20,16 @@ use Rattle.sha2.proofs.Chains.{chain-agree, chain-add}
 take-closing : (n : ℕ) (t : List ℕ) (k bits : ℕ) → n ≤ length t → take n (closing sha256 t k bits) ≡ take n t
 unfolding closing
 take-closing n t k bits h =
-    let h₁ : n ≤ length (t ++ (128 ∷ [])) = omega (arith, length-append t (128 ∷ [])) in
-    let h₂ : n ≤ length ((t ++ (128 ∷ [])) ++ replicate k 0) = omega (arith, length-append (t ++ (128 ∷ [])) (replicate k 0)) in
-    rw (take-append-le n ((t ++ (128 ∷ [])) ++ replicate k 0) (bytes 8 bits) h₂, take-append-le n (t ++ (128 ∷ [])) (replicate k 0) h₁, take-append-le n t (128 ∷ []) h)
+    let h₁ : n ≤ length (t ++ (0x80 ∷ [])) = omega (arith, length-append t (0x80 ∷ [])) in
+    let h₂ : n ≤ length ((t ++ (0x80 ∷ [])) ++ replicate k 0) = omega (arith, length-append (t ++ (0x80 ∷ [])) (replicate k 0)) in
+    rw (take-append-le n ((t ++ (0x80 ∷ [])) ++ replicate k 0) (bytes 8 bits) h₂, take-append-le n (t ++ (0x80 ∷ [])) (replicate k 0) h₁, take-append-le n t (0x80 ∷ []) h)
 
 drop-closing : (n : ℕ) (t : List ℕ) (k bits : ℕ) → n ≤ length t → drop n (closing sha256 t k bits) ≡ closing sha256 (drop n t) k bits
 unfolding closing
 drop-closing n t k bits h =
-    let h₁ : n ≤ length (t ++ (128 ∷ [])) = omega (arith, length-append t (128 ∷ [])) in
-    let h₂ : n ≤ length ((t ++ (128 ∷ [])) ++ replicate k 0) = omega (arith, length-append (t ++ (128 ∷ [])) (replicate k 0)) in
-    rw (drop-append-le n ((t ++ (128 ∷ [])) ++ replicate k 0) (bytes 8 bits) h₂, drop-append-le n (t ++ (128 ∷ [])) (replicate k 0) h₁, drop-append-le n t (128 ∷ []) h)
+    let h₁ : n ≤ length (t ++ (0x80 ∷ [])) = omega (arith, length-append t (0x80 ∷ [])) in
+    let h₂ : n ≤ length ((t ++ (0x80 ∷ [])) ++ replicate k 0) = omega (arith, length-append (t ++ (0x80 ∷ [])) (replicate k 0)) in
+    rw (drop-append-le n ((t ++ (0x80 ∷ [])) ++ replicate k 0) (bytes 8 bits) h₂, drop-append-le n (t ++ (0x80 ∷ [])) (replicate k 0) h₁, drop-append-le n t (0x80 ∷ []) h)
 
 module _ {h tail t v : List ℕ} {len : ℕ} (d : Held sha256 h tail len t) (area : List ℕ) (rest n bits : ℕ)
     (e : rest ≡ d .rest)

@@ -22,9 +22,9 @@ unfolding closing
 length-closing last k bits =
     omega (
       arith,
-      length-append ((last ++ (128 ∷ [])) ++ replicate k 0) (bytes 8 bits),
-      length-append (last ++ (128 ∷ [])) (replicate k 0),
-      length-append last (128 ∷ []),
+      length-append ((last ++ (0x80 ∷ [])) ++ replicate k 0) (bytes 8 bits),
+      length-append (last ++ (0x80 ∷ [])) (replicate k 0),
+      length-append last (0x80 ∷ []),
       length-replicate {A = ℕ} k 0,
       length-bytes 8 bits,
     )

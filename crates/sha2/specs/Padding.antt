@@ -9,13 +9,13 @@ use Rattle.words.specs.Words.{bytes}
 abbrev pub field : Kind → ℕ
 field s = s .octets * 2
 
--- "k zero bits, where k is the smallest, non-negative solution to the equation l + 1 + k ≡ 448 mod 512" (896 mod 1024), in bytes behind 128
+-- "k zero bits, where k is the smallest, non-negative solution to the equation l + 1 + k ≡ 448 mod 512" (896 mod 1024), in bytes behind 0x80
 abbrev pub zeros : Kind → ℕ → ℕ
 zeros s n = (size s * 2 - 1 - field s - n % size s) % size s
 
 -- what stands behind the text, from its last bytes on: "append the bit 1 to the end of the message", k zero bytes, and the length in bits
 unfoldable pub closing : Kind → List ℕ → ℕ → ℕ → List ℕ
-closing s last k bits = ((last ++ (128 ∷ [])) ++ replicate k 0) ++ bytes (field s) bits
+closing s last k bits = ((last ++ (0x80 ∷ [])) ++ replicate k 0) ++ bytes (field s) bits
 
 -- the padded text
 unfoldable pub padded : Kind → List ℕ → List ℕ

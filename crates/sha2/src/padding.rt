@@ -21,7 +21,7 @@ pub(crate) fn closed(tail: [u8; 64], rest: usize, end: usize, bits: u64) -> [u8;
 {
     let mut area = [0u8; 128];
     bytes::copy(&tail[..rest], &mut area);
-    area[rest] = 128;
+    area[rest] = 0x80;
     let at = end - 8;
     let length = octets::field(bits);
     bytes::copy(&length, &mut area[at..]);

@@ -27,11 +27,11 @@ unfolding text composed
 reached-start s room = record { inside = omega arith; fits = omega arith; answer = refl; written = refl }
 
 -- a whole letter's size
-pub whole-small : (l m w : ℕ) → w ≡ joined l m → (w ≡ 0 → ⊥) → (w < 2048) × (width w ≡ 2)
+pub whole-small : (l m w : ℕ) → w ≡ joined l m → (w ≡ 0 → ⊥) → (w < 0x800) × (width w ≡ 2)
 whole-small l m w ew some =
     let h = joint l m (ne-eqb (joined l m) 0 (λ q. some (ew ∙ q))) .whole in
-    let lo = at-least 192 255 (joined l m) h in
-    let hi = at-most 192 255 (joined l m) h in
+    let lo = at-least 0xC0 0xFF (joined l m) h in
+    let hi = at-most 0xC0 0xFF (joined l m) h in
     (omega (arith, ew), rw ew (width-2 (joined l m) (omega arith) (omega arith)))
 
 module _ (s : List ℕ) (at n c : ℕ) (room : List ℕ) (r : Reached s at n room) (more : at < length s) (is : c ≡ front (drop at s)) where

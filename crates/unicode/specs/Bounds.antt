@@ -28,18 +28,18 @@ pub at-most : (lo hi b : ℕ) → within lo hi b ≡ true → b ≤ hi
 unfolding within
 at-most lo hi b e = leb-true b hi (and-right (leb lo b) (leb b hi) e)
 
-pub width-1 : (c : ℕ) → c < 128 → width c ≡ 1
+pub width-1 : (c : ℕ) → c < 0x80 → width c ≡ 1
 unfolding width
-width-1 c p = simp (lt-ltb c 128 p)
+width-1 c p = simp (lt-ltb c 0x80 p)
 
-pub width-2 : (c : ℕ) → 128 ≤ c → c < 2048 → width c ≡ 2
+pub width-2 : (c : ℕ) → 0x80 ≤ c → c < 0x800 → width c ≡ 2
 unfolding width
-width-2 c p q = simp (le-ltb c 128 p, lt-ltb c 2048 q)
+width-2 c p q = simp (le-ltb c 0x80 p, lt-ltb c 0x800 q)
 
-pub encode-1 : (c : ℕ) → c < 128 → encode c ≡ c ∷ []
+pub encode-1 : (c : ℕ) → c < 0x80 → encode c ≡ c ∷ []
 unfolding encode
-encode-1 c p = simp (lt-ltb c 128 p)
+encode-1 c p = simp (lt-ltb c 0x80 p)
 
-pub encode-2 : (c : ℕ) → 128 ≤ c → c < 2048 → encode c ≡ (192 + c / 64) ∷ follow c ∷ []
+pub encode-2 : (c : ℕ) → 0x80 ≤ c → c < 0x800 → encode c ≡ (0xC0 + c / 0x40) ∷ follow c ∷ []
 unfolding encode
-encode-2 c p q = simp (le-ltb c 128 p, lt-ltb c 2048 q)
+encode-2 c p q = simp (le-ltb c 0x80 p, lt-ltb c 0x800 q)

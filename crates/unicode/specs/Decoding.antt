@@ -17,16 +17,16 @@ use Rattle.unicode.specs.Encodings.{scalar-below, front-encode}
 pub width-some : (c : ℕ) → 1 ≤ width c
 unfolding width
 width-some c =
-    either (ltb c 128) (λ p. rw p (omega arith)) λ p. rw p
-    (either (ltb c 2048) (λ q. rw q (omega arith)) λ q. rw q
-    (either (ltb c 65536) (λ r. rw r (omega arith)) λ r. rw r (omega arith)))
+    either (ltb c 0x80) (λ p. rw p (omega arith)) λ p. rw p
+    (either (ltb c 0x800) (λ q. rw q (omega arith)) λ q. rw q
+    (either (ltb c 0x10000) (λ r. rw r (omega arith)) λ r. rw r (omega arith)))
 
 pub length-encode : (c : ℕ) → length (encode c) ≡ width c
 unfolding encode width
 length-encode c =
-    either (ltb c 128) (λ p. rw p) λ p. rw p
-    (either (ltb c 2048) (λ q. rw q) λ q. rw q
-    (either (ltb c 65536) (λ r. rw r) λ r. rw r))
+    either (ltb c 0x80) (λ p. rw p) λ p. rw p
+    (either (ltb c 0x800) (λ q. rw q) λ q. rw q
+    (either (ltb c 0x10000) (λ r. rw r) λ r. rw r))
 
 -- after a character fewer bytes are left
 shorter : (b : ℕ) (t : List ℕ) (c k : ℕ) → length (b ∷ t) ≤ suc k → length (drop (width c) (b ∷ t)) ≤ k

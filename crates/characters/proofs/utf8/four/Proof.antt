@@ -11,14 +11,14 @@ use Rattle.characters.proofs.utf8.four.Tie as tie
 
 returns : tie.Need-returns
 unfolding fourBytes
-returns c = rw (above 240 244 (c .before .args .a) (omega arith) (omega arith))
+returns c = rw (above 0xF0 0xF4 (c .before .args .a) (omega arith) (omega arith))
 
 returns-2 : tie.Need-returns-2
 unfolding fourBytes
 returns-2 c =
     let e = sym (c .before .is-within .ensures .same) ∙ not-true _ (c .if2 .taken) in
     rw (
-      inside 240 244 (c .before .before .before .before .before .args .a) (omega arith) (omega arith),
+      inside 0xF0 0xF4 (c .before .before .before .before .before .args .a) (omega arith) (omega arith),
       ← c .before .before .before .low-of .ensures .0,
       ← c .before .before .high-of .ensures .0,
       e,
@@ -30,7 +30,7 @@ returns-3 c =
     let e = sym (c .before .before .before .is-within .ensures .same) ∙ not-false _ (c .before .before .if2 .left) in
     let e2 = sym (c .before .is-within2 .ensures .same) ∙ not-true _ (c .if3 .taken) in
     rw (
-      inside 240 244 (c .before .before .before .before .before .before .before .args .a) (omega arith) (omega arith),
+      inside 0xF0 0xF4 (c .before .before .before .before .before .before .before .args .a) (omega arith) (omega arith),
       ← c .before .before .before .before .before .low-of .ensures .0,
       ← c .before .before .before .before .high-of .ensures .0,
       e,
@@ -44,7 +44,7 @@ returns-4 c =
     let e2 = sym (c .before .before .before .is-within2 .ensures .same) ∙ not-false _ (c .before .before .if3 .left) in
     let e3 = sym (c .before .is-within3 .ensures .same) ∙ not-true _ (c .if4 .taken) in
     rw (
-      inside 240 244 (c .before .before .before .before .before .before .before .before .before .args .a) (omega arith) (omega arith),
+      inside 0xF0 0xF4 (c .before .before .before .before .before .before .before .before .before .args .a) (omega arith) (omega arith),
       ← c .before .before .before .before .before .before .before .low-of .ensures .0,
       ← c .before .before .before .before .before .before .high-of .ensures .0,
       e,
@@ -53,20 +53,20 @@ returns-4 c =
     )
 
 -- past all tests the three following bytes are in their bounds
-second : (c : tie.Else4) → (128 ≤ c .before .before .before .before .before .before .before .before .before .args .b) × (c .before .before .before .before .before .before .before .before .before .args .b ≤ 191)
+second : (c : tie.Else4) → (0x80 ≤ c .before .before .before .before .before .before .before .before .before .args .b) × (c .before .before .before .before .before .before .before .before .before .args .b ≤ 0xBF)
 second c =
     let h = c .before .before .before .before .before .is-within .ensures .bounds (not-false _ (c .before .before .before .before .if2 .left)) in
     let l = c .before .before .before .before .before .before .before .low-of .ensures .1 in
     let u = c .before .before .before .before .before .before .high-of .ensures .1 in
     (omega (arith, h, l, u), omega (arith, h, l, u))
 
-third : (c : tie.Else4) → (128 ≤ c .before .before .before .before .before .before .before .before .before .args .c) × (c .before .before .before .before .before .before .before .before .before .args .c ≤ 191)
+third : (c : tie.Else4) → (0x80 ≤ c .before .before .before .before .before .before .before .before .before .args .c) × (c .before .before .before .before .before .before .before .before .before .args .c ≤ 0xBF)
 third c = c .before .before .before .is-within2 .ensures .bounds (not-false _ (c .before .before .if3 .left))
 
-fourth : (c : tie.Else4) → (128 ≤ c .before .before .before .before .before .before .before .before .before .args .d) × (c .before .before .before .before .before .before .before .before .before .args .d ≤ 191)
+fourth : (c : tie.Else4) → (0x80 ≤ c .before .before .before .before .before .before .before .before .before .args .d) × (c .before .before .before .before .before .before .before .before .before .args .d ≤ 0xBF)
 fourth c = c .before .is-within3 .ensures .bounds (not-false _ (c .if4 .left))
 
-first : (c : tie.Else4) → (240 ≤ c .before .before .before .before .before .before .before .before .before .args .a) × (c .before .before .before .before .before .before .before .before .before .args .a ≤ 244)
+first : (c : tie.Else4) → (0xF0 ≤ c .before .before .before .before .before .before .before .before .before .args .a) × (c .before .before .before .before .before .before .before .before .before .args .a ≤ 0xF4)
 first c = (c .before .before .before .before .before .before .before .before .before .pre, c .before .before .before .before .before .before .before .before .if1 .left)
 
 returns-5 : tie.Need-returns-5
@@ -76,7 +76,7 @@ returns-5 c =
     let e2 = sym (c .before .before .before .is-within2 .ensures .same) ∙ not-false _ (c .before .before .if3 .left) in
     let e3 = sym (c .before .is-within3 .ensures .same) ∙ not-false _ (c .if4 .left) in
     rw (
-      inside 240 244 (c .before .before .before .before .before .before .before .before .before .args .a) (omega arith) (omega arith),
+      inside 0xF0 0xF4 (c .before .before .before .before .before .before .before .before .before .args .a) (omega arith) (omega arith),
       ← c .before .before .before .before .before .before .before .low-of .ensures .0,
       ← c .before .before .before .before .before .before .high-of .ensures .0,
       e,

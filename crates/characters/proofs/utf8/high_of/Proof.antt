@@ -17,7 +17,7 @@ returns-3 : tie.Need-returns-3
 unfolding high
 returns-3 c =
     let a = c .before .args .a in
-    (simp (ne-eqb a 237 (c .match .rest .0 .1), ne-eqb a 244 (c .match .rest .1)), search needs)
+    (simp (ne-eqb a 0xED (c .match .rest .0 .1), ne-eqb a 0xF4 (c .match .rest .1)), search needs)
 
 pub high-of-spec : {M : Type 1} → statement M
 high-of-spec = tie.close (tie.spec returns returns-2 returns-3)

@@ -17,7 +17,7 @@ returns-3 : tie.Need-returns-3
 unfolding low
 returns-3 c =
     let a = c .before .args .a in
-    (simp (ne-eqb a 224 (c .match .rest .0 .1), ne-eqb a 240 (c .match .rest .1)), search needs)
+    (simp (ne-eqb a 0xE0 (c .match .rest .0 .1), ne-eqb a 0xF0 (c .match .rest .1)), search needs)
 
 pub low-of-spec : {M : Type 1} → statement M
 low-of-spec = tie.close (tie.spec returns returns-2 returns-3)

@@ -15,7 +15,7 @@ slice-write-text c = omega (arith, width-1 (c .before .args .c) (c .if1 .taken))
 returns : tie.Need-returns
 returns c =
     let a = c .before .args in
-    let h : a .c < 128 = c .if1 .taken in
+    let h : a .c < 0x80 = c .if1 .taken in
     let room : a .n < length (a .text .now) = omega (arith, width-1 (a .c) h) in
     (omega (arith, width-1 (a .c) h), rw (encode-1 (a .c) h) (one-more (a .text .now) (a .n) (a .c) room))
 
@@ -28,11 +28,11 @@ slice-write-text-3 c = simp length-set (omega (arith, width-2 (c .before .args .
 returns-2 : tie.Need-returns-2
 returns-2 c =
     let a = c .before .args in
-    let h : 128 ≤ a .c = c .if1 .left in
+    let h : 0x80 ≤ a .c = c .if1 .left in
     let w = width-2 (a .c) h (omega arith) in
     let room : a .n + 1 < length (a .text .now) = omega (arith, w) in (
       omega (arith, w),
-      rw (encode-2 (a .c) h (omega arith)) (take-stores (a .text .now) (a .n) (192 + a .c / 64) (follow (a .c)) room),
+      rw (encode-2 (a .c) h (omega arith)) (take-stores (a .text .now) (a .n) (0xC0 + a .c / 0x40) (follow (a .c)) room),
     )
 
 pub put-spec : {M : Type 1} → statement M

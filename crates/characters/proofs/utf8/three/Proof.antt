@@ -14,7 +14,7 @@ unfolding threeBytes
 returns c =
     let e = sym (c .before .is-within .ensures .same) ∙ not-true _ (c .if1 .taken) in
     rw (
-      inside 224 239 (c .before .before .before .before .args .a) (omega arith) (omega arith),
+      inside 0xE0 0xEF (c .before .before .before .before .args .a) (omega arith) (omega arith),
       ← c .before .before .before .low-of .ensures .0,
       ← c .before .before .high-of .ensures .0,
       e,
@@ -26,7 +26,7 @@ returns-2 c =
     let e = sym (c .before .before .before .is-within .ensures .same) ∙ not-false _ (c .before .before .if1 .left) in
     let e2 = sym (c .before .is-within2 .ensures .same) ∙ not-true _ (c .if2 .taken) in
     rw (
-      inside 224 239 (c .before .before .before .before .before .before .args .a) (omega arith) (omega arith),
+      inside 0xE0 0xEF (c .before .before .before .before .before .before .args .a) (omega arith) (omega arith),
       ← c .before .before .before .before .before .low-of .ensures .0,
       ← c .before .before .before .before .high-of .ensures .0,
       e,
@@ -34,14 +34,14 @@ returns-2 c =
     )
 
 -- past all tests both following bytes are in their bounds
-second : (c : tie.Else2) → (128 ≤ c .before .before .before .before .before .before .args .b) × (c .before .before .before .before .before .before .args .b ≤ 191)
+second : (c : tie.Else2) → (0x80 ≤ c .before .before .before .before .before .before .args .b) × (c .before .before .before .before .before .before .args .b ≤ 0xBF)
 second c =
     let h = c .before .before .before .is-within .ensures .bounds (not-false _ (c .before .before .if1 .left)) in
     let l = c .before .before .before .before .before .low-of .ensures .1 in
     let u = c .before .before .before .before .high-of .ensures .1 in
     (omega (arith, h, l, u), omega (arith, h, l, u))
 
-third : (c : tie.Else2) → (128 ≤ c .before .before .before .before .before .before .args .c) × (c .before .before .before .before .before .before .args .c ≤ 191)
+third : (c : tie.Else2) → (0x80 ≤ c .before .before .before .before .before .before .args .c) × (c .before .before .before .before .before .before .args .c ≤ 0xBF)
 third c = c .before .is-within2 .ensures .bounds (not-false _ (c .if2 .left))
 
 returns-3 : tie.Need-returns-3
@@ -50,7 +50,7 @@ returns-3 c =
     let e = sym (c .before .before .before .is-within .ensures .same) ∙ not-false _ (c .before .before .if1 .left) in
     let e2 = sym (c .before .is-within2 .ensures .same) ∙ not-false _ (c .if2 .left) in
     rw (
-      inside 224 239 (c .before .before .before .before .before .before .args .a) (omega arith) (omega arith),
+      inside 0xE0 0xEF (c .before .before .before .before .before .before .args .a) (omega arith) (omega arith),
       ← c .before .before .before .before .before .low-of .ensures .0,
       ← c .before .before .before .before .high-of .ensures .0,
       e,

@@ -10,14 +10,14 @@ use Rattle.characters.proofs.utf8.two.Tie as tie
 
 returns : tie.Need-returns
 unfolding twoBytes
-returns c = rw (below 194 223 (c .before .args .a) (omega arith))
+returns c = rw (below 0xC2 0xDF (c .before .args .a) (omega arith))
 
 returns-2 : tie.Need-returns-2
 unfolding tail twoBytes
 returns-2 c =
     let a = c .before .before .before .args .a in
     let e = sym (c .before .is-within .ensures .same) ∙ not-true _ (c .if2 .taken) in
-    rw (inside 194 223 a (omega arith) (omega arith), e)
+    rw (inside 0xC2 0xDF a (omega arith) (omega arith), e)
 
 sub-result-2 : tie.Need-sub-result-2
 sub-result-2 c = omega (arith, c .before .is-within .ensures .bounds (not-false _ (c .if2 .left)))
@@ -30,7 +30,7 @@ unfolding tail twoBytes
 returns-3 c =
     let a = c .before .before .before .args .a in
     let e = sym (c .before .is-within .ensures .same) ∙ not-false _ (c .if2 .left) in
-    rw (inside 194 223 a (omega arith) (omega arith), e)
+    rw (inside 0xC2 0xDF a (omega arith) (omega arith), e)
 
 pub two-spec : {M : Type 1} → statement M
 two-spec =
