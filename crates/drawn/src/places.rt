@@ -3,10 +3,11 @@
 use lines::parts;
 use tables::limits::Slip;
 ghost use Prim.Native.Nat.{_≤_, _<_};
+ghost use Rattle.trees.specs.Rules.{maxNodes};
 
 // The first row of the subtree that ends with a row: each row passed was waited for, and its children are then.
 fn first(counts: &[u16], row: usize) -> usize
-    requires { ⌜ row < 1023 ⌝ }
+    requires { ⌜ row < maxNodes ⌝ }
     ensures { λ r. ⌜ r ≤ row ⌝ }
 {
     let mut at = row;
@@ -23,7 +24,7 @@ fn first(counts: &[u16], row: usize) -> usize
 
 // The first row of the subtree of each of n rows.
 pub fn firsts(counts: &[u16], n: usize, begins: &mut [u16; Slip::MAX_NODES])
-    requires { ⌜ n ≤ 1023 ⌝ }
+    requires { ⌜ n ≤ maxNodes ⌝ }
 {
     let mut row = 0;
     while row < n {
@@ -34,7 +35,7 @@ pub fn firsts(counts: &[u16], n: usize, begins: &mut [u16; Slip::MAX_NODES])
 
 // How many nodes are above a row.
 pub fn depth(begins: &[u16; Slip::MAX_NODES], n: usize, row: usize) -> usize
-    requires { ⌜ n ≤ 1023 ⌝ }
+    requires { ⌜ n ≤ maxNodes ⌝ }
     ensures { λ r. ⌜ r ≤ n ⌝ }
 {
     let mut above = 0;
@@ -59,7 +60,7 @@ fn spans(begin: usize, end: usize, row: usize) -> usize
 // The rows in the order of their lines: before a row's line stand those of the nodes above it and of the rows before
 // its subtree's first.
 pub fn order(begins: &[u16; Slip::MAX_NODES], n: usize, rows: &mut [u16; Slip::MAX_NODES])
-    requires { ⌜ n ≤ 1023 ⌝ }
+    requires { ⌜ n ≤ maxNodes ⌝ }
 {
     let mut row = 0;
     while row < n {

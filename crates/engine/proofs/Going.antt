@@ -6,6 +6,7 @@ use mathlib.Core.List.{List, [], _++_}
 use native.Mathlib.Omega.{arith}
 use lib.ListN.{length, drop}
 use Rattle.lists.specs.Lists.{all}
+use Rattle.trees.specs.Nodes.{headBytes}
 use Rattle.trees.specs.Rules.{maxValue}
 use Rattle.trees.specs.Rows.{Entry, Tag, judged, verdict}
 use Rattle.tables.specs.Tables.{entries, sum}
@@ -38,7 +39,7 @@ pub record Going (types counts lengths values : List ℕ) (i at : ℕ) (s : Stac
   pub noted : (k : ℕ) → k < i → RowNoted counts labels before k
   pub used : at + sum (drop i lengths) ≡ sum lengths
   pub few : s .depth ≤ i
-  pub low : s .top ≤ 4 * i + at
+  pub low : s .top ≤ headBytes * i + at
   pub small : at ≤ maxValue * i
   pub counted : s .blocks ≤ 2 ^ 15 * i
 

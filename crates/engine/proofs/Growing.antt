@@ -10,7 +10,7 @@ use borrow.Author.Tests.{eqb-true, eqb-false, eq-eqb, ne-eqb, leb-true, le-ltb, 
 use Rattle.lists.specs.TestsLaws.{and-left, and-right, and-both, or-cases}
 use Rattle.lists.specs.Lists.{all}
 use Rattle.lists.specs.ListsLaws.{all-append, all-take, all-drop}
-use Rattle.trees.specs.Nodes.{piece}
+use Rattle.trees.specs.Nodes.{headBytes, piece}
 use Rattle.outcomes.specs.Refusals.{notComposed}
 use Rattle.trees.specs.Rules.{labelBytes, saltType, saltBytes, maxValue, maxType, maxChildren, maxHeight, saltFirst, saltLong, saltThere, salted, leafFits, textFits}
 use Rattle.trees.specs.Rows.{Entry, node, tip, formed, Tag, headOf, highestOf, kids, below, parent, fault, next, stepOf}
@@ -66,7 +66,7 @@ first-long g gs w s = go (eqb (g .kind) saltType) refl long there
         let most : g .kind ≤ saltType = leb-true (g .kind) saltType (and-left (leb (g .kind) saltType) (all (λ x. leb (x .kind) saltType) (map headOf gs)) low) in
         whole-long g w (not-one (g .kind) most (eqb-false (g .kind) saltType e))
 
-kids-long : (gs : List Tag) → 1 ≤ length gs → all whole gs ≡ true → salted (map headOf gs) ≡ true → 4 + labelBytes ≤ length (pieces gs)
+kids-long : (gs : List Tag) → 1 ≤ length gs → all whole gs ≡ true → salted (map headOf gs) ≡ true → headBytes + labelBytes ≤ length (pieces gs)
 kids-long [] h w s = absurd (omega arith)
 kids-long (g ∷ gs) h w s =
     omega (arith, first-long g gs (and-left (whole g) (all whole gs) w) s, length-append (piece (headOf g)) (pieces gs))
@@ -109,7 +109,7 @@ module _ (composed : List ℕ → Bool) (st : List Tag) (w : all whole st ≡ tr
 
   pub after-long :
       (e : Entry) → formed e ≡ true → faultOf (stepOf Sha256.label composed st e) ≡ 0
-      → length (pieces (after Sha256.label st e)) ≤ length (pieces st) + 4 + bytesOf e
+      → length (pieces (after Sha256.label st e)) ≤ length (pieces st) + headBytes + bytesOf e
   after-long (node k) f z =
       let gs : List Tag = kids k st in
       let n : Kept st k = kept Sha256.label composed st k z in

@@ -8,6 +8,7 @@ use lib.Dec.{eqb}
 use lib.ListN.{length, take, drop, getD}
 use lib.Seq.{getD-take}
 use borrow.Author.Tests.{ne-eqb}
+use Rattle.trees.specs.Nodes.{headBytes}
 use Rattle.trees.specs.Rules.{labelBytes}
 use Rattle.trees.specs.Rows.{Tag, left}
 use Rattle.engine.specs.Engine.{told, noLabel, oneTree}
@@ -38,14 +39,14 @@ one-is (g ∷ (h ∷ gs)) d kinds e k =
 pub told-one : (st : List Tag) (work : List ℕ) (top b : ℕ) {label : List ℕ}
     → oneTree st ≡ true
     → take top work ≡ pieces st
-    → top ≡ 4 + labelBytes
-    → label ≡ take labelBytes (drop 4 work)
+    → top ≡ headBytes + labelBytes
+    → label ≡ take labelBytes (drop headBytes work)
     → answer true b label ≡ told (left st b)
 unfolding told
 told-one [] work top b o w t l = absurd (false≢true o)
 told-one (g ∷ []) work top b o w t l =
-    let text : take labelBytes (drop 4 work) ≡ g .text =
-    part work 4 (4 + labelBytes) (omega arith) (ap (λ (n : ℕ). take n work) (sym t) ∙ w) ∙ append-nil (g .text) in
+    let text : take labelBytes (drop headBytes work) ≡ g .text =
+    part work headBytes (headBytes + labelBytes) (omega arith) (ap (λ (n : ℕ). take n work) (sym t) ∙ w) ∙ append-nil (g .text) in
     ap₂ (λ (x : Bool) (y : List ℕ). answer x b y) (sym o) (l ∙ text ∙ ap (λ (x : Bool). cond x (g .text) noLabel) (sym o))
 told-one (g ∷ (h ∷ gs)) work top b o w t l = absurd (false≢true o)
 

@@ -7,7 +7,7 @@ use native.Mathlib.Omega.{arith}
 use lib.ListN.{length, take, drop, getD, length-append, length-take, length-drop}
 use Rattle.lists.specs.Lists.{all}
 use Rattle.lists.specs.TestsLaws.{and-left}
-use Rattle.trees.specs.Nodes.{piece}
+use Rattle.trees.specs.Nodes.{headBytes, piece}
 use Rattle.trees.specs.Rules.{labelBytes}
 use Rattle.trees.specs.Rows.{Entry, formed, Tag, headOf, Step, next, fault, faulty, left, onward, stepOf, judged}
 use Rattle.tables.specs.Tables.{entryOf, entries, rowFits, sum}
@@ -38,7 +38,7 @@ root-long :
     → all whole st ≡ true
     → d ≡ 1
     → getD kinds 0 0 ≡ 0
-    → top ≡ 4 + labelBytes
+    → top ≡ headBytes + labelBytes
 root-long [] l w one z = absurd (omega (arith, l .deep))
 root-long {d} (g ∷ []) {kinds} l w one z =
     let kind : g .kind ≡ 0 = first-cell g kinds one (l .columns .kinds-are) ∙ z in

@@ -3,6 +3,7 @@ use Prim.Native.Nat.{ℕ, _+_, _*_, _≤_}
 use mathlib.Core.Path.{_≡_}
 use mathlib.Core.List.{List}
 use lib.ListN.{length, getD}
+use Rattle.trees.specs.Nodes.{headBytes}
 use Rattle.trees.specs.Rules.{maxNodes, maxBytes, labelBytes}
 use Rattle.trees.specs.Rows.{verdict}
 use Rattle.tables.specs.Tables.{entries, firstBad, sum}
@@ -34,13 +35,13 @@ pub record Lent (types counts lengths values kinds heights sizes work labels : L
   pub kinds-room : length types ≤ length kinds
   pub heights-room : length types ≤ length heights
   pub sizes-room : length types ≤ length sizes
-  pub work-room : 4 * length types + sum lengths ≤ length work
+  pub work-room : headBytes * length types + sum lengths ≤ length work
 
 -- a root that waits alone has a whole label
 pub record Stands (s : Stack) (kinds work : List ℕ) : Type 0 where
   pub kinds-room : s .depth ≤ length kinds
   pub work-room : s .top ≤ length work
-  pub root : s .depth ≡ 1 → getD kinds 0 0 ≡ 0 → s .top ≡ 4 + labelBytes
+  pub root : s .depth ≡ 1 → getD kinds 0 0 ≡ 0 → s .top ≡ headBytes + labelBytes
 
 -- The verdict on the table's entries, and at each internal node's row its label.
 pub record Judges (types counts lengths values : List ℕ) (r : Judged) (labels : List ℕ) : Type 0 where

@@ -6,7 +6,7 @@ use native.Mathlib.Omega.{arith}
 use borrow.Rule.Slice.PartMut.{putMid}
 use lib.ListN.{length, take, drop, set, length-set}
 use lib.Seq.{take-all, paste, take-paste}
-use Rattle.trees.specs.Nodes.{piece}
+use Rattle.trees.specs.Nodes.{headBytes, piece}
 use Rattle.lists.specs.PartsLaws.{filled, put-is}
 
 -- first the type and the length, in four bytes
@@ -17,8 +17,8 @@ headed work text top kind =
 pub length-headed : (work text : List ℕ) (top kind : ℕ) → length (headed work text top kind) ≡ length work
 length-headed work text top kind = simp length-set
 
-module _ (work text : List ℕ) (top kind : ℕ) (room : top + 4 + length text ≤ length work) where
-  head-is : take (top + 4) (headed work text top kind)
+module _ (work text : List ℕ) (top kind : ℕ) (room : top + headBytes + length text ≤ length work) where
+  head-is : take (top + headBytes) (headed work text top kind)
       ≡ take top work ++ (kind / 256 ∷ kind % 256 ∷ length text / 256 ∷ length text % 256 ∷ [])
   head-is =
       let w₁ : List ℕ = set work top (kind / 256) in
@@ -34,21 +34,21 @@ module _ (work text : List ℕ) (top kind : ℕ) (room : top + 4 + length text �
       ∙ simp append-assoc
 
   -- then its text
-  pub piece-put : take (top + 4 + length text) (paste (headed work text top kind) (top + 4) text (length text)) ≡ take top work ++ piece (record { kind = kind; text = text })
+  pub piece-put : take (top + headBytes + length text) (paste (headed work text top kind) (top + headBytes) text (length text)) ≡ take top work ++ piece (record { kind = kind; text = text })
   piece-put =
-      let at : top + 4 ≤ length (headed work text top kind) = omega (arith, length-headed work text top kind) in
+      let at : top + headBytes ≤ length (headed work text top kind) = omega (arith, length-headed work text top kind) in
       let all : length text ≤ length text = omega arith in
-      take-paste (headed work text top kind) (top + 4) text (length text) at all
+      take-paste (headed work text top kind) (top + headBytes) text (length text) at all
       ∙ ap₂ _++_ head-is (take-all (length text) text all)
       ∙ append-assoc (take top work) (kind / 256 ∷ kind % 256 ∷ length text / 256 ∷ length text % 256 ∷ []) text
 
 -- the area with the piece
 pub pasted :
     (work text last : List ℕ) (top kind : ℕ)
-    → top + 4 + length text ≤ length work
-    → last ≡ take (length text) text ++ drop (length text) (take (length (headed work text top kind) - (top + 4)) (drop (top + 4) (headed work text top kind)))
-    → putMid (top + 4) (length (headed work text top kind) - (top + 4)) (headed work text top kind) last
-    ≡ paste (headed work text top kind) (top + 4) text (length text)
+    → top + headBytes + length text ≤ length work
+    → last ≡ take (length text) text ++ drop (length text) (take (length (headed work text top kind) - (top + headBytes)) (drop (top + headBytes) (headed work text top kind)))
+    → putMid (top + headBytes) (length (headed work text top kind) - (top + headBytes)) (headed work text top kind) last
+    ≡ paste (headed work text top kind) (top + headBytes) text (length text)
 pasted work text last top kind room e =
     let w : List ℕ = headed work text top kind in
-    put-is w text last (top + 4) (length w - (top + 4)) (omega (arith, length-headed work text top kind)) e
+    put-is w text last (top + headBytes) (length w - (top + headBytes)) (omega (arith, length-headed work text top kind)) e

@@ -5,15 +5,11 @@ use mathlib.Core.List.{List, [], _∷_, _++_}
 use mathlib.Core.Path.{_≡_}
 use lib.Dec.{eqb}
 use lib.ListN.{length}
-use Rattle.trees.specs.Nodes.{Node, blocksOf, blocks}
+use Rattle.trees.specs.Nodes.{Node, headBytes, blocksOf, blocks}
 use Rattle.trees.specs.Rules.{labelBytes}
 use Rattle.trees.specs.Rows.{kids, below}
 use Rattle.tables.specs.Records.{TreeTable}
 use Rattle.tables.specs.Tables.{sum}
-
--- "type in two bytes, label length in two bytes": what a piece has before its label
-abbrev pub headBytes : ℕ
-headBytes = 4
 
 -- The size of the piece that a row leaves waiting. A row that names no child is a leaf, and "its value is its label", or "the label it
 -- carries"; any other has a label of 32 bytes.

@@ -7,13 +7,13 @@ use native.Mathlib.Omega.{arith}
 use lib.ListN.{length, take, drop, length-append, length-drop}
 use lib.Seq.{take-all, length-take-le}
 use borrow.Author.Tests.{ne-eqb}
-use Rattle.trees.specs.Nodes.{Node, Run, inner, leaf, nil, cons, count, prelabel, label, heads, blocksOf, blocks, blocksIn}
+use Rattle.trees.specs.Nodes.{Node, Run, inner, leaf, nil, cons, count, headBytes, prelabel, label, heads, blocksOf, blocks, blocksIn}
 use Rattle.trees.specs.Rules.{labelBytes}
 use Rattle.trees.specs.Rows.{Entry, node, tip, rows, rowsIn, kids, below}
 use Rattle.trees.specs.RowsLaws.{kids-at, below-at}
 use Rattle.tables.specs.Tables.{entries, sum}
 use Rattle.tables.specs.Records.{TreeTable}
-use Rattle.send.specs.Blocks.{headBytes, pieceSize, rowBlocks, blocksFrom}
+use Rattle.send.specs.Blocks.{pieceSize, rowBlocks, blocksFrom}
 
 -- the same walk over entries
 abbrev entryBlocks : List Entry → List ℕ → ℕ

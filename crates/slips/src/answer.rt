@@ -13,7 +13,7 @@ pub struct Answer {
     pub side: usize,
     pub length: usize,
     pub blocks: usize,
-    pub label: [u8; 32],
+    pub label: [u8; Slip::LABEL_BYTES],
 }
 
 pub fn refused(number: usize, place: usize) -> Answer
@@ -30,7 +30,7 @@ pub fn refused(number: usize, place: usize) -> Answer
     }
 }
 
-pub fn taken(length: usize, blocks: usize, label: [u8; 32]) -> Answer
+pub fn taken(length: usize, blocks: usize, label: [u8; Slip::LABEL_BYTES]) -> Answer
     ensures { λ r. ⌜ r ≡ Answers.taken length blocks label ⌝ }
 {
     Answer {

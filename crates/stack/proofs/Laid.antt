@@ -6,7 +6,7 @@ use native.Mathlib.Omega.{arith}
 use lib.ListN.{length, take, drop, set, length-append, length-drop}
 use lib.Seq.{take-at, drop-at, length-take-le}
 use Rattle.lists.specs.PartsLaws.{map-take, map-drop, filled, part, front}
-use Rattle.trees.specs.Nodes.{piece}
+use Rattle.trees.specs.Nodes.{headBytes, piece}
 use Rattle.trees.specs.Rows.{Tag, headOf, kids, below}
 use Rattle.tables.specs.Tables.{sum}
 use Rattle.faults.specs.Waiting.{kindOf, heightOf, sizeOf}
@@ -28,10 +28,10 @@ module _ {st : List Tag} {d top : ℕ} {kinds heights sizes work : List ℕ} (l 
   kids-both = sym (length-split k st) ∙ l .full
 
   -- the bytes of their pieces
-  pub kids-bytes : sum (lastOf k d sizes) + 4 * k ≡ length (pieces (kids k st))
+  pub kids-bytes : sum (lastOf k d sizes) + headBytes * k ≡ length (pieces (kids k st))
   kids-bytes =
-      ap (λ (c : List ℕ). sum c + 4 * k) (kids-part sizeOf sizes (l .columns .sizes-are))
-      ∙ ap (λ (n : ℕ). sum (map sizeOf (kids k st)) + 4 * n) (sym kids-long)
+      ap (λ (c : List ℕ). sum c + headBytes * k) (kids-part sizeOf sizes (l .columns .sizes-are))
+      ∙ ap (λ (n : ℕ). sum (map sizeOf (kids k st)) + headBytes * n) (sym kids-long)
       ∙ sym (length-pieces (kids k st))
 
   pub kids-fit : length (pieces (kids k st)) ≤ top
@@ -76,8 +76,8 @@ pub laid-push :
     → d < length kinds
     → d < length heights
     → d < length sizes
-    → end ≡ top + 4 + length (g .text)
-    → take (top + 4 + length (g .text)) work′ ≡ take top work ++ piece (headOf g)
+    → end ≡ top + headBytes + length (g .text)
+    → take (top + headBytes + length (g .text)) work′ ≡ take top work ++ piece (headOf g)
     → Laid (st ++ (g ∷ [])) (d + 1) end (set kinds d (g .kind)) (set heights d (g .height)) (set sizes d (length (g .text))) work′
 laid-push {st} {d} {top} {kinds} {heights} {sizes} {work} {work′} g l hk hh hs q e =
     let col : (f : Tag → ℕ) (w : List ℕ) → d < length w → take d w ≡ map f st → take (d + 1) (set w d (f g)) ≡ map f (st ++ (g ∷ [])) =

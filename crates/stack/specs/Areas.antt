@@ -4,7 +4,7 @@ use mathlib.Core.Path.{_≡_}
 use mathlib.Core.List.{List, [], _∷_, _++_, map}
 use lib.ListN.{length, take, drop}
 use lib.Seq.{paste}
-use Rattle.trees.specs.Nodes.{prelabel, blocksOf}
+use Rattle.trees.specs.Nodes.{headBytes, prelabel, blocksOf}
 use Rattle.trees.specs.Rules.{maxHeight, labelBytes}
 use Rattle.trees.specs.Rows.{Entry, node, tip, Tag, headOf, highestOf, kids, below, parent}
 use Rattle.tables.specs.Tables.{sum}
@@ -32,7 +32,7 @@ pub record Room (s : Stack) (kind height : ℕ) (text kinds heights sizes work :
   pub kinds-room : s .depth < length kinds
   pub heights-room : s .depth < length heights
   pub sizes-room : s .depth < length sizes
-  pub work-room : s .top + 4 + length text ≤ length work
+  pub work-room : s .top + headBytes + length text ≤ length work
 
 -- whatever stack lay in the areas, it lies there with one node more
 pub record Pushes (s : Stack) (kind height : ℕ) (text : List ℕ) (r : Stack)
@@ -53,14 +53,14 @@ pub record Counted (s : Stack) (count : ℕ) (heights sizes work : List ℕ) : T
   pub heights-room : s .depth ≤ length heights
   pub sizes-room : s .depth ≤ length sizes
   pub few : s .depth < 2 ^ 10
-  pub long : sum (lastOf count (s .depth) sizes) + 4 * count ≤ s .top
+  pub long : sum (lastOf count (s .depth) sizes) + headBytes * count ≤ s .top
   pub area : s .top ≤ length work
   pub small : s .top < 2 ^ 20
 
 -- what they give their parent
 pub record Over (s : Stack) (count : ℕ) (r : Parent) (heights sizes work : List ℕ) : Type 0 where
   pub height : r .height ≡ greatest (lastOf count (s .depth) heights) + 1
-  pub long : r .long ≡ sum (lastOf count (s .depth) sizes) + 4 * count
+  pub long : r .long ≡ sum (lastOf count (s .depth) sizes) + headBytes * count
   pub label : r .label ≡ Sha256.label (lastOf (r .long) (s .top) work)
 
 -- the blocks that an entry compresses

@@ -4,7 +4,7 @@ use mathlib.Core.Path.{_≡_, refl, sym, ap, _∙_}
 use mathlib.Core.List.{List, [], _∷_, _++_, map, map-append, append-assoc, append-nil}
 use native.Mathlib.Omega.{arith}
 use lib.ListN.{length, length-append, take-append-drop}
-use Rattle.trees.specs.Nodes.{Head, piece, prelabel}
+use Rattle.trees.specs.Nodes.{Head, headBytes, piece, prelabel}
 use Rattle.trees.specs.Rows.{Tag, headOf, kids, below}
 use Rattle.tables.specs.Tables.{sum}
 use Rattle.faults.specs.Waiting.{sizeOf}
@@ -26,15 +26,15 @@ pub length-split : (k : ℕ) (st : List Tag) → length (pieces st) ≡ length (
 length-split k st = ap length (pieces-split k st) ∙ length-append (pieces (below k st)) (pieces (kids k st))
 
 -- the pieces after one node more
-pub length-more : (st : List Tag) (g : Tag) → length (pieces (st ++ (g ∷ []))) ≡ length (pieces st) + 4 + length (g .text)
+pub length-more : (st : List Tag) (g : Tag) → length (pieces (st ++ (g ∷ []))) ≡ length (pieces st) + headBytes + length (g .text)
 length-more st g =
     ap length (pieces-append st (g ∷ []))
     ∙ length-append (pieces st) (pieces (g ∷ []))
     ∙ ap (λ (p : List ℕ). length (pieces st) + length p) (append-nil (piece (headOf g)))
     ∙ omega arith
 
--- a head of four bytes and the label, for each
-pub length-pieces : (gs : List Tag) → length (pieces gs) ≡ sum (map sizeOf gs) + 4 * length gs
+-- a head and the label, for each
+pub length-pieces : (gs : List Tag) → length (pieces gs) ≡ sum (map sizeOf gs) + headBytes * length gs
 unfolding sum
 length-pieces [] = refl
 length-pieces (g ∷ gs) = omega (arith, length-append (piece (headOf g)) (pieces gs), length-pieces gs)

@@ -6,6 +6,7 @@ use lines::parts;
 use lines::words;
 use tables::limits::Slip;
 ghost use Prim.Native.Nat.{_<_};
+ghost use Rattle.trees.specs.Rules.{maxNodes};
 
 // The longest text, in bytes.
 pub const BYTES: usize = 262144;
@@ -57,7 +58,7 @@ fn ended(rows: usize, used: usize, fault: usize) -> Table {
 }
 
 fn keep(cells: &mut [u16; CELLS], row: usize, kind: u16, count: u16, length: u16)
-    requires { ⌜ row < 1023 ⌝ }
+    requires { ⌜ row < maxNodes ⌝ }
 {
     cells[row] = kind;
     cells[ROWS + row] = count;

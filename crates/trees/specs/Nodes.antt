@@ -52,6 +52,10 @@ pub record Head : Type 0 where
   pub kind : ℕ
   pub text : List ℕ
 
+-- "type in two bytes, label length in two bytes": what a piece has before its label
+abbrev pub headBytes : ℕ
+headBytes = 4
+
 -- "for each child in order: type in two bytes, label length in two bytes, most significant first, then the label"
 abbrev pub piece : Head → List ℕ
 piece h = h .kind / 256 ∷ h .kind % 256 ∷ length (h .text) / 256 ∷ length (h .text) % 256 ∷ h .text

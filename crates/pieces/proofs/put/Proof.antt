@@ -6,6 +6,7 @@ use native.Mathlib.Omega.{arith}
 use denote.Ref.{now}
 use lib.ListN.{length, take, length-set, length-take, length-drop}
 use lib.Seq.{length-paste}
+use Rattle.trees.specs.Nodes.{headBytes}
 use Rattle.pieces.proofs.Writing.{headed, length-headed, piece-put, pasted}
 use borrow.Author.Needs.{needs}
 use Rattle.pieces.proofs.put.Statement.{statement}
@@ -22,9 +23,9 @@ same-length c =
     let text : List ℕ = now (a .text) in
     let w : List ℕ = headed work text (a .at) (a .kind) in
     let n : length w ≡ length work = length-headed work text (a .at) (a .kind) in
-    let fits : a .at + 4 + length text ≤ length w = omega arith in
+    let fits : a .at + headBytes + length text ≤ length w = omega arith in
     ap length (pasted work text _ (a .at) (a .kind) (pre .2) (c .before .before .copy .ensures .1))
-    ∙ length-paste w (a .at + 4) text (length text) fits (le-refl (length text))
+    ∙ length-paste w (a .at + headBytes) text (length text) fits (le-refl (length text))
     ∙ n
 
 returns : tie.Need-returns
@@ -34,7 +35,7 @@ returns c =
     let work : List ℕ = now (a .work) in
     let text : List ℕ = now (a .text) in (
       refl,
-      ap (take (a .at + 4 + length text)) (pasted work text _ (a .at) (a .kind) (pre .2) (c .before .before .copy .ensures .1))
+      ap (take (a .at + headBytes + length text)) (pasted work text _ (a .at) (a .kind) (pre .2) (c .before .before .copy .ensures .1))
           ∙ piece-put work text (a .at) (a .kind) (pre .2),
     )
 

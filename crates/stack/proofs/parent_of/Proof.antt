@@ -1,6 +1,7 @@
 use Prim.Native.Nat.{ℕ, _+_, _*_}
 use mathlib.Core.Path.{ap}
 use borrow.Author.Needs.{needs}
+use Rattle.trees.specs.Nodes.{headBytes}
 use Rattle.stack.proofs.parent_of.Statement.{statement}
 use Rattle.stack.proofs.parent_of.Tie as tie
 
@@ -9,7 +10,7 @@ returns c =
     let count = c .before .before .before .before .before .before .before .before .before .args .count in
     record {
       height = ap (λ (n : ℕ). n + 1) (c .before .before .before .before .highest .ensures .0);
-      long = ap (λ (n : ℕ). n + 4 * count) (c .before .before .sum .ensures);
+      long = ap (λ (n : ℕ). n + headBytes * count) (c .before .before .sum .ensures);
       label = c .label .ensures;
     }
 

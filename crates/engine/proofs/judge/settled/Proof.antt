@@ -9,6 +9,7 @@ use denote.Ref.{now}
 use lib.Dec.{eqb}
 use lib.ListN.{length, take, drop, getD, length-take, length-drop}
 use Rattle.lists.specs.TestsLaws.{and-left, and-right}
+use Rattle.trees.specs.Nodes.{headBytes}
 use Rattle.trees.specs.Rules.{labelBytes}
 use Rattle.engine.specs.Engine.{noLabel}
 use Rattle.engine.specs.Judging.{Stands}
@@ -19,7 +20,7 @@ use Rattle.engine.proofs.judge.settled.Statement.{statement}
 use Rattle.engine.proofs.judge.settled.Tie as tie
 
 -- a node that waits alone, of type 0, has a whole label
-whole : (s : Stack) {kinds work : List ℕ} {one : Bool} → Stands s kinds work → one ≡ (eqb (s .depth) 1 && eqb (getD kinds 0 0) 0) → one ≡ true → s .top ≡ 4 + labelBytes
+whole : (s : Stack) {kinds work : List ℕ} {one : Bool} → Stands s kinds work → one ≡ (eqb (s .depth) 1 && eqb (getD kinds 0 0) 0) → one ≡ true → s .top ≡ headBytes + labelBytes
 whole s {kinds} p e o =
     let both : (eqb (s .depth) 1 && eqb (getD kinds 0 0) 0) ≡ true = sym e ∙ o in
     p .root (eqb-true (s .depth) 1 (and-left (eqb (s .depth) 1) (eqb (getD kinds 0 0) 0) both)) (eqb-true (getD kinds 0 0) 0 (and-right (eqb (s .depth) 1) (eqb (getD kinds 0 0) 0) both))
@@ -27,7 +28,7 @@ whole s {kinds} p e o =
 part-copy-end : tie.Need-part-copy-end
 part-copy-end c =
     let b = c .before .before .before .before in
-    let t : b .args .s .top ≡ 4 + labelBytes = whole (b .args .s) (b .pre) (c .before .alone .ensures) (c .if1 .taken) in
+    let t : b .args .s .top ≡ headBytes + labelBytes = whole (b .args .s) (b .pre) (c .before .alone .ensures) (c .if1 .taken) in
     omega arith
 
 copy-requires : tie.Need-copy-requires
@@ -39,13 +40,13 @@ returns c =
     let work : List ℕ = now (b .args .work) in
     let one = c .before .before .before .before .before .alone in
     let taken = c .before .before .before .before .if1 .taken in
-    let t : b .args .s .top ≡ 4 + labelBytes = whole (b .args .s) (b .pre) (one .ensures) taken in
-    let n : length (take labelBytes (drop 4 work)) ≡ labelBytes =
-    omega (arith, length-take labelBytes (drop 4 work), length-drop 4 work, b .pre .work-room) in
+    let t : b .args .s .top ≡ headBytes + labelBytes = whole (b .args .s) (b .pre) (one .ensures) taken in
+    let n : length (take labelBytes (drop headBytes work)) ≡ labelBytes =
+    omega (arith, length-take labelBytes (drop headBytes work), length-drop headBytes work, b .pre .work-room) in
     λ st d k w.
     ap (λ (x : Bool). answer x (b .args .s .blocks) (c .before .copy .last .1 .0)) taken
     ∙ told-one st work (b .args .s .top) (b .args .s .blocks) (one-is st _ _ d k ∙ sym (one .ensures) ∙ taken) w t
-    (copied (take labelBytes (drop 4 work)) noLabel _ (sym n) (c .before .copy .ensures .1))
+    (copied (take labelBytes (drop headBytes work)) noLabel _ (sym n) (c .before .copy .ensures .1))
 
 returns-2 : tie.Need-returns-2
 returns-2 c =
