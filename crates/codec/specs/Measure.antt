@@ -1,7 +1,11 @@
 -- The size of a slip, over the columns of its table.
-use Prim.Native.Nat.{ℕ, zero, suc, _+_, _*_}
+use Prim.Native.Nat.{ℕ, zero, suc, _+_, _*_, _≤_}
+use mathlib.Core.Path.{_≡_}
 use mathlib.Core.List.{List, [], _∷_}
+use lib.ListN.{length}
 use Rattle.tables.specs.Limits.{editionBits, countBits, childBits, typeBits, lengthBits}
+use Rattle.tables.specs.Tables.{entries, sum}
+use Rattle.codec.specs.Writing.{slipOf}
 
 -- "An entry takes 6, 267 or 20 + 8 × length bits."
 unfoldable pub rowBits : ℕ → ℕ → ℕ → ℕ
@@ -19,3 +23,7 @@ rowsBits (t ∷ ts) (c ∷ cs) (l ∷ ls) = rowBits t c l + rowsBits ts cs ls
 -- with the header's
 unfoldable pub tableBits : List ℕ → List ℕ → List ℕ → ℕ
 tableBits ts cs ls = editionBits + countBits + rowsBits ts cs ls
+
+-- the bytes of the table's slip, whatever the values
+abbrev pub Sized : List ℕ → List ℕ → List ℕ → ℕ → Type 0
+Sized ts cs ls r = (vs : List ℕ) → sum ls ≤ length vs → r ≡ length (slipOf (entries ts cs ls vs))

@@ -1,7 +1,7 @@
 // The size of a table's slip.
 ghost use mathlib.Core.Path.{_≡_};
 ghost use Prim.Native.Nat.{_<_, _≤_};
-ghost use Rattle.codec.specs.Measure.{rowBits};
+ghost use Rattle.codec.specs.Measure.{rowBits, Sized};
 ghost use Rattle.tables.specs.Tables.{Columns};
 ghost use Rattle.codec.specs.Writer.{Measured};
 use tables::form::cell;
@@ -24,7 +24,7 @@ fn row_bits(kind: usize, count: usize, length: usize) -> usize
 }
 
 // The bits of a table's slip, its header among them and its padding not.
-pub fn measure(types: &[u16], counts: &[u16], lengths: &[u16]) -> usize
+fn measure(types: &[u16], counts: &[u16], lengths: &[u16]) -> usize
     requires { ⌜ Columns (now types) (now counts) (now lengths) ⌝ }
     ensures { λ r. ⌜ Measured (now (types .entry)) (now (counts .entry)) (now (lengths .entry)) r ⌝ }
 {
@@ -38,4 +38,12 @@ pub fn measure(types: &[u16], counts: &[u16], lengths: &[u16]) -> usize
         i += 1;
     }
     total
+}
+
+// The bytes of a table's slip: its bits, and zeros to the end of the last byte.
+pub fn size(types: &[u16], counts: &[u16], lengths: &[u16]) -> usize
+    requires { ⌜ Columns (now types) (now counts) (now lengths) ⌝ }
+    ensures { λ r. ⌜ Sized (now (types .entry)) (now (counts .entry)) (now (lengths .entry)) r ⌝ }
+{
+    (measure(types, counts, lengths) + 7) / 8
 }

@@ -26,7 +26,7 @@ fn deliver(
     requires { ⌜ SendTreeAsks (now types) (now counts) (now lengths) (now values) ⌝ }
     ensures { λ r. ⌜ DeliverGives (now (types .entry)) (now (counts .entry)) (now (lengths .entry)) (now (values .entry)) label (now (out .entry)) r (now (out .exit)) ⌝ }
 {
-    let bytes = (measure::measure(types, counts, lengths) + 7) / 8;
+    let bytes = measure::size(types, counts, lengths);
     if Slip::MAX_BYTES < bytes {
         return answer::refused(Refusal::JOIN_TOO_LARGE, 0);
     }

@@ -105,7 +105,7 @@ rows-hold k (t ∷ ts) (c ∷ cs) (l ∷ ls) a b f =
 
 -- the slip's length, measured; and its values are no longer
 module _ (t : Table) (f : Formed t) where
-  pub slip-long : (tableBits (t .types) (t .counts) (t .lengths) + 7) / 8 ≡ length (slipOf (rowsOf t))
+  slip-long : (tableBits (t .types) (t .counts) (t .lengths) + 7) / 8 ≡ length (slipOf (rowsOf t))
   slip-long =
       let filled : sum (t .lengths) ≤ length (t .values) = omega (arith, f .area) in
       sym (slip-bytes-measured (t .types) (t .counts) (t .lengths) (t .values) filled)

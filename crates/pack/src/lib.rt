@@ -78,7 +78,7 @@ fn answer_of(types: &[u16], counts: &[u16], lengths: &[u16], values: &[u8], room
     if f.number != Refusal::ACCEPTED {
         return answer::refused(f.number, f.place);
     }
-    let bytes = (measure::measure(types, counts, lengths) + 7) / 8;
+    let bytes = measure::size(types, counts, lengths);
     if Slip::MAX_BYTES < bytes {
         return answer::refused(Refusal::TOO_LONG, 0);
     }

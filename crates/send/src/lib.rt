@@ -25,7 +25,7 @@ pub fn send(
     requires { ⌜ Sendable (now types) (now counts) (now lengths) (now values) ⌝ }
     ensures { λ r. ⌜ Leaves (sent (entries (now (types .entry)) (now (counts .entry)) (now (lengths .entry)) (now (values .entry))) blocks label (now (out .entry))) r (now (out .exit)) ⌝ }
 {
-    let bytes = (measure::measure(types, counts, lengths) + 7) / 8;
+    let bytes = measure::size(types, counts, lengths);
     if out.len() < bytes {
         return answer::refused(Refusal::NO_ROOM, 0);
     }

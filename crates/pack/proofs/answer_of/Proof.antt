@@ -1,11 +1,18 @@
-use Prim.Native.Nat.{ℕ, _+_, _/_}
-use mathlib.Core.Path.{sym, ap, _∙_}
+use Prim.Native.Nat.{ℕ, _≤_}
+use mathlib.Core.Path.{_≡_, sym, ap, _∙_}
 use native.Mathlib.Omega.{arith}
+use denote.Ref.{now}
 use borrow.Author.Tests.{not-true, not-false}
+use lib.ListN.{length}
+use Rattle.outcomes.specs.Refusals.{accepted}
+use Rattle.trees.specs.Rules.{maxBytes}
+use Rattle.tables.specs.Tables.{Table, table, Formed}
+use Rattle.codec.specs.Writing.{slipOf}
 use Rattle.slips.specs.declared.answer.Answer.{Answer}
 use Rattle.pack.specs.declared.Fault.{Fault}
 use Rattle.slips.specs.Answers.{refused, taken}
-use Rattle.pack.specs.PackLaws.{fault-told, slip-long, values-few, answer-faulty, answer-long, answer-entry, answer-many, answer-roomless, answer-taken}
+use Rattle.pack.specs.Pack.{rowsOf, faultOf}
+use Rattle.pack.specs.PackLaws.{fault-told, values-few, answer-faulty, answer-long, answer-entry, answer-many, answer-roomless, answer-taken}
 use borrow.Author.Needs.{needs}
 use Rattle.pack.proofs.answer_of.Statement.{statement}
 use Rattle.pack.proofs.answer_of.Tie as tie
@@ -21,26 +28,42 @@ returns c =
       roomy = λ q. absurd (c .before .if1 .taken (sym (ap (λ (a : Answer). a .number) (c .refused .ensures)) ∙ q));
     }
 
-measure-requires : tie.Need-measure-requires
-measure-requires c κs =
+size-requires : tie.Need-size-requires
+size-requires c κs =
     fault-told _ (sym (ap (λ (f : Fault). f .number) (c .before .before .fault-of .ensures)) ∙ c .if1 .left) .columns
+
+abbrev given : tie.After-size → Table
+given c =
+    let a = c .before .before .before .before .before .before .before .before .args in
+    table (now (a .types)) (now (a .counts)) (now (a .lengths)) (now (a .values))
+
+-- once the table is measured it has the form, and the bytes are the slip's
+told : (c : tie.After-size) → faultOf (given c) .number ≡ accepted
+told c = sym (ap (λ (f : Fault). f .number) (c .before .before .before .fault-of .ensures)) ∙ c .before .if1 .left
+
+well : (c : tie.After-size) → Formed (given c)
+well c = fault-told (given c) (told c)
+
+sized : (c : tie.After-size) → c .size .result ≡ length (slipOf (rowsOf (given c)))
+sized c = c .size .ensures _ (omega (arith, well c .area))
+
+short : (c : tie.Else2) → length (slipOf (rowsOf (given (c .before)))) ≤ maxBytes
+short c = rw (sized (c .before)) at (c .if2 .left)
 
 returns-2 : tie.Need-returns-2
 returns-2 c =
     record {
-      answer = c .refused2 .ensures ∙ answer-long _ _ _ _ (sym (ap (λ (f : Fault). f .number) (c .before .before .before .before .before .fault-of .ensures)) ∙ c .before .before .before .if1 .left) (rw (ap (λ (n : ℕ). (n + 7) / 8) (c .before .before .measure .ensures .bits) ∙ slip-long _ (fault-told _ (sym (ap (λ (f : Fault). f .number) (c .before .before .before .before .before .fault-of .ensures)) ∙ c .before .before .before .if1 .left))) at (c .before .if2 .taken));
+      answer = c .refused2 .ensures ∙ answer-long _ _ _ _ (told (c .before .before)) (rw (sized (c .before .before)) at (c .before .if2 .taken));
       roomy = λ q. absurd (omega (arith, sym (ap (λ (a : Answer). a .number) (c .refused2 .ensures)) ∙ q));
     }
 
 judged-requires : tie.Need-judged-requires
-judged-requires c κs =
-    let f = (fault-told _ (sym (ap (λ (f : Fault). f .number) (c .before .before .before .before .fault-of .ensures)) ∙ c .before .before .if1 .left)) in
-    (f, values-few _ f (rw (ap (λ (n : ℕ). (n + 7) / 8) (c .before .measure .ensures .bits) ∙ slip-long _ (fault-told _ (sym (ap (λ (f : Fault). f .number) (c .before .before .before .before .fault-of .ensures)) ∙ c .before .before .if1 .left))) at (c .if2 .left)))
+judged-requires c κs = (well (c .before), values-few _ (well (c .before)) (short c))
 
 returns-3 : tie.Need-returns-3
 returns-3 c =
     record {
-      answer = c .refused3 .ensures ∙ answer-entry _ _ _ _ (sym (ap (λ (f : Fault). f .number) (c .before .before .before .before .before .before .before .before .fault-of .ensures)) ∙ c .before .before .before .before .before .before .if1 .left) (rw (ap (λ (n : ℕ). (n + 7) / 8) (c .before .before .before .before .before .measure .ensures .bits) ∙ slip-long _ (fault-told _ (sym (ap (λ (f : Fault). f .number) (c .before .before .before .before .before .before .before .before .fault-of .ensures)) ∙ c .before .before .before .before .before .before .if1 .left))) at (c .before .before .before .before .if2 .left)) (c .before .before .before .judged .ensures) (c .before .if3 .taken);
+      answer = c .refused3 .ensures ∙ answer-entry _ _ _ _ (told (c .before .before .before .before .before)) (short (c .before .before .before .before)) (c .before .before .before .judged .ensures) (c .before .if3 .taken);
       roomy = λ q. absurd (c .before .if3 .taken (sym (ap (λ (a : Answer). a .number) (c .refused3 .ensures)) ∙ q));
     }
 
@@ -49,7 +72,7 @@ returns-4 c =
     record {
       answer =
           c .refused4 .ensures
-          ∙ answer-many _ _ _ _ (sym (ap (λ (f : Fault). f .number) (c .before .before .before .before .before .before .before .before .before .before .fault-of .ensures)) ∙ c .before .before .before .before .before .before .before .before .if1 .left) (rw (ap (λ (n : ℕ). (n + 7) / 8) (c .before .before .before .before .before .before .before .measure .ensures .bits) ∙ slip-long _ (fault-told _ (sym (ap (λ (f : Fault). f .number) (c .before .before .before .before .before .before .before .before .before .before .fault-of .ensures)) ∙ c .before .before .before .before .before .before .before .before .if1 .left))) at (c .before .before .before .before .before .before .if2 .left)) (c .before .before .before .before .before .judged .ensures) (c .before .before .before .if3 .left) (not-true _ (c .before .if4 .taken));
+          ∙ answer-many _ _ _ _ (told (c .before .before .before .before .before .before .before)) (short (c .before .before .before .before .before .before)) (c .before .before .before .before .before .judged .ensures) (c .before .before .before .if3 .left) (not-true _ (c .before .if4 .taken));
       roomy = λ q. absurd (omega (arith, sym (ap (λ (a : Answer). a .number) (c .refused4 .ensures)) ∙ q));
     }
 
@@ -58,26 +81,26 @@ returns-5 c =
     record {
       answer =
           c .refused5 .ensures
-          ∙ answer-roomless _ _ _ _ (sym (ap (λ (f : Fault). f .number) (c .before .before .before .before .before .before .before .before .before .before .before .fault-of .ensures)) ∙ c .before .before .before .before .before .before .before .before .before .if1 .left) (rw (ap (λ (n : ℕ). (n + 7) / 8) (c .before .before .before .before .before .before .before .before .measure .ensures .bits) ∙ slip-long _ (fault-told _ (sym (ap (λ (f : Fault). f .number) (c .before .before .before .before .before .before .before .before .before .before .before .fault-of .ensures)) ∙ c .before .before .before .before .before .before .before .before .before .if1 .left))) at (c .before .before .before .before .before .before .before .if2 .left)) (c .before .before .before .before .before .before .judged .ensures) (c .before .before .before .before .if3 .left) (not-false _ (c .before .before .if4 .left))
-          (rw (ap (λ (n : ℕ). (n + 7) / 8) (c .before .before .before .before .before .before .before .before .measure .ensures .bits) ∙ slip-long _ (fault-told _ (sym (ap (λ (f : Fault). f .number) (c .before .before .before .before .before .before .before .before .before .before .before .fault-of .ensures)) ∙ c .before .before .before .before .before .before .before .before .before .if1 .left))) at (c .before .if5 .taken));
+          ∙ answer-roomless _ _ _ _ (told (c .before .before .before .before .before .before .before .before)) (short (c .before .before .before .before .before .before .before)) (c .before .before .before .before .before .before .judged .ensures) (c .before .before .before .before .if3 .left) (not-false _ (c .before .before .if4 .left))
+          (rw (sized (c .before .before .before .before .before .before .before .before)) at (c .before .if5 .taken));
       roomy = λ q. absurd (omega (arith, sym (ap (λ (a : Answer). a .number) (c .refused5 .ensures)) ∙ q));
     }
 
 returns-6 : tie.Need-returns-6
 returns-6 c =
-    let long = (ap (λ (n : ℕ). (n + 7) / 8) (c .before .before .before .before .before .before .before .before .before .measure .ensures .bits) ∙ slip-long _ (fault-told _ (sym (ap (λ (f : Fault). f .number) (c .before .before .before .before .before .before .before .before .before .before .before .before .fault-of .ensures)) ∙ c .before .before .before .before .before .before .before .before .before .before .if1 .left))) in
+    let long = sized (c .before .before .before .before .before .before .before .before .before) in
     let fits = rw long at (c .before .before .if5 .left) in
     record {
       answer =
           c .taken .ensures
           ∙ ap (λ (n : ℕ). taken n (c .before .before .before .before .before .before .before .judged .result .blocks) (c .before .before .before .before .before .before .before .judged .result .label)) long
-          ∙ answer-taken _ _ _ _ (sym (ap (λ (f : Fault). f .number) (c .before .before .before .before .before .before .before .before .before .before .before .before .fault-of .ensures)) ∙ c .before .before .before .before .before .before .before .before .before .before .if1 .left) (rw (ap (λ (n : ℕ). (n + 7) / 8) (c .before .before .before .before .before .before .before .before .before .measure .ensures .bits) ∙ slip-long _ (fault-told _ (sym (ap (λ (f : Fault). f .number) (c .before .before .before .before .before .before .before .before .before .before .before .before .fault-of .ensures)) ∙ c .before .before .before .before .before .before .before .before .before .before .if1 .left))) at (c .before .before .before .before .before .before .before .before .if2 .left)) (c .before .before .before .before .before .before .before .judged .ensures) (c .before .before .before .before .before .if3 .left) (not-false _ (c .before .before .before .if4 .left)) fits;
-      roomy = λ q. record { form = (fault-told _ (sym (ap (λ (f : Fault). f .number) (c .before .before .before .before .before .before .before .before .before .before .before .before .fault-of .ensures)) ∙ c .before .before .before .before .before .before .before .before .before .before .if1 .left)); fits = fits };
+          ∙ answer-taken _ _ _ _ (told (c .before .before .before .before .before .before .before .before .before)) (short (c .before .before .before .before .before .before .before .before)) (c .before .before .before .before .before .before .before .judged .ensures) (c .before .before .before .before .before .if3 .left) (not-false _ (c .before .before .before .if4 .left)) fits;
+      roomy = λ q. record { form = well (c .before .before .before .before .before .before .before .before .before); fits = fits };
     }
 
 pub answer-of-spec : {M : Type 1} → statement M
 answer-of-spec =
     tie.close
-    (tie.spec (λ c κs. search needs) (λ c κs. search needs) returns measure-requires (λ c. search needs) (λ c κs. search needs) returns-2
+    (tie.spec (λ c κs. search needs) (λ c κs. search needs) returns size-requires (λ c κs. search needs) returns-2
     judged-requires (λ c κs. search needs) returns-3 (λ c κs. search needs) returns-4 (λ c κs. search needs) returns-5 (λ c κs. search needs)
     returns-6)
