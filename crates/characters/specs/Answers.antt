@@ -1,18 +1,12 @@
--- What the functions on characters say of bytes and of the table of pairs.
+-- What the functions on characters say of the table of pairs.
 use mathlib.Core.Path.{_≡_}
 use Prim.Native.Nat.{ℕ, _≤_, _%_}
-use mathlib.Core.Bool.{Bool, true, cond, _&&_}
+use mathlib.Core.Bool.{cond, _&&_}
 use mathlib.Core.List.{List, [], _∷_}
 use lib.Dec.{eqb}
 use lib.ListN.{length, drop}
-use Rattle.unicode.specs.Utf8.{within}
 use Rattle.unicode.specs.Pairs.{flat, pairs}
 use Rattle.unicode.specs.Joining.{joined}
-
--- r says whether b lies within bounds
-pub record Tested (lo hi b : ℕ) (r : Bool) : Type 0 where
-  pub same : r ≡ within lo hi b
-  pub bounds : r ≡ true → (lo ≤ b) × (b ≤ hi)
 
 -- what a letter and a mark compose to, in a table as one list, or 0
 unfoldable pub sought : List ℕ → ℕ → ℕ → ℕ

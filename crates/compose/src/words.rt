@@ -1,5 +1,4 @@
 // A refusal in words, a line on standard error.
-use characters::utf8;
 use lines::page;
 use lines::parts;
 use outcomes::Refusal;

@@ -4,7 +4,6 @@ mod scan;
 
 use characters::pairs;
 use characters::repertoire;
-use characters::utf8;
 pub use composed::Composed;
 use outcomes::Refusal;
 ghost use mathlib.Core.Path.{_≡_};

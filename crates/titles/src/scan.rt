@@ -2,7 +2,6 @@
 use crate::composed::Composed;
 use characters::pairs;
 use characters::repertoire;
-use characters::utf8;
 use outcomes::Refusal;
 ghost use mathlib.Core.Path.{_≡_};
 ghost use Prim.Native.Nat.{_≤_};

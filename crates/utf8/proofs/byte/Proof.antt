@@ -3,8 +3,8 @@ use mathlib.Core.Path.{refl, sym}
 use native.Mathlib.Omega.{arith}
 use borrow.Author.Needs.{needs}
 use lib.ListN.{List·getD-eq-default}
-use Rattle.characters.proofs.utf8.byte.Statement.{statement}
-use Rattle.characters.proofs.utf8.byte.Tie as tie
+use Rattle.utf8.proofs.byte.Statement.{statement}
+use Rattle.utf8.proofs.byte.Tie as tie
 
 cast-result : tie.Need-cast-result
 cast-result c = omega (arith, c .shared-slice-known .given (c .before .before .args .i))

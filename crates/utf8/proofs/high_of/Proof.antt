@@ -2,8 +2,8 @@
 use borrow.Author.Needs.{needs}
 use borrow.Author.Tests.{ne-eqb}
 use Rattle.unicode.specs.Utf8.{high}
-use Rattle.characters.proofs.utf8.high_of.Statement.{statement}
-use Rattle.characters.proofs.utf8.high_of.Tie as tie
+use Rattle.utf8.proofs.high_of.Statement.{statement}
+use Rattle.utf8.proofs.high_of.Tie as tie
 
 returns : tie.Need-returns
 unfolding high

@@ -2,8 +2,8 @@
 use mathlib.Core.Path.{sym}
 use native.Mathlib.Omega.{arith}
 use Rattle.unicode.specs.Bounds.{width-1, width-2}
-use Rattle.characters.proofs.utf8.width.Statement.{statement}
-use Rattle.characters.proofs.utf8.width.Tie as tie
+use Rattle.utf8.proofs.width.Statement.{statement}
+use Rattle.utf8.proofs.width.Tie as tie
 
 returns : tie.Need-returns
 returns c = sym (width-1 (c .before .args .c) (omega arith))

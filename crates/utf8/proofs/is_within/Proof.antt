@@ -3,8 +3,8 @@ use mathlib.Core.Bool.{false≢true}
 use native.Mathlib.Omega.{arith}
 use borrow.Author.Tests.{le-leb, lt-leb, leb-true}
 use Rattle.unicode.specs.Utf8.{within}
-use Rattle.characters.proofs.utf8.is_within.Statement.{statement}
-use Rattle.characters.proofs.utf8.is_within.Tie as tie
+use Rattle.utf8.proofs.is_within.Statement.{statement}
+use Rattle.utf8.proofs.is_within.Tie as tie
 
 returns : tie.Need-returns
 unfolding within

@@ -2,8 +2,8 @@
 use mathlib.Core.Path.{sym, _∙_}
 use borrow.Author.Needs.{needs}
 use Rattle.unicode.specs.Fronts.{front-1, front-2, front-3, front-4}
-use Rattle.characters.proofs.utf8.first.Statement.{statement}
-use Rattle.characters.proofs.utf8.first.Tie as tie
+use Rattle.utf8.proofs.first.Statement.{statement}
+use Rattle.utf8.proofs.first.Tie as tie
 
 returns : tie.Need-returns
 returns c =

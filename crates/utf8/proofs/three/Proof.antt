@@ -6,8 +6,8 @@ use borrow.Author.Needs.{needs}
 use borrow.Author.Tests.{not-true, not-false}
 use Rattle.unicode.specs.Utf8.{tail, threeBytes}
 use Rattle.unicode.specs.Bounds.{inside}
-use Rattle.characters.proofs.utf8.three.Statement.{statement}
-use Rattle.characters.proofs.utf8.three.Tie as tie
+use Rattle.utf8.proofs.three.Statement.{statement}
+use Rattle.utf8.proofs.three.Tie as tie
 
 returns : tie.Need-returns
 unfolding threeBytes

@@ -6,8 +6,8 @@ use lib.ListN.{length, length-set}
 use Rattle.unicode.specs.Bounds.{width-1, width-2, encode-1, encode-2}
 use Rattle.lists.specs.PartsLaws.{one-more, take-stores}
 use Rattle.unicode.specs.Utf8.{follow}
-use Rattle.characters.proofs.utf8.put.Statement.{statement}
-use Rattle.characters.proofs.utf8.put.Tie as tie
+use Rattle.utf8.proofs.put.Statement.{statement}
+use Rattle.utf8.proofs.put.Tie as tie
 
 slice-write-text : tie.Need-slice-write-text
 slice-write-text c = omega (arith, width-1 (c .before .args .c) (c .if1 .taken))

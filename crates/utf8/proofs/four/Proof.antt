@@ -6,8 +6,8 @@ use borrow.Author.Needs.{needs}
 use borrow.Author.Tests.{not-true, not-false}
 use Rattle.unicode.specs.Utf8.{tail, fourBytes}
 use Rattle.unicode.specs.Bounds.{inside, above}
-use Rattle.characters.proofs.utf8.four.Statement.{statement}
-use Rattle.characters.proofs.utf8.four.Tie as tie
+use Rattle.utf8.proofs.four.Statement.{statement}
+use Rattle.utf8.proofs.four.Tie as tie
 
 returns : tie.Need-returns
 unfolding fourBytes

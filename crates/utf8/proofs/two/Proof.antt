@@ -5,8 +5,8 @@ use borrow.Author.Needs.{needs}
 use borrow.Author.Tests.{not-true, not-false}
 use Rattle.unicode.specs.Utf8.{tail, twoBytes}
 use Rattle.unicode.specs.Bounds.{inside, below}
-use Rattle.characters.proofs.utf8.two.Statement.{statement}
-use Rattle.characters.proofs.utf8.two.Tie as tie
+use Rattle.utf8.proofs.two.Statement.{statement}
+use Rattle.utf8.proofs.two.Tie as tie
 
 returns : tie.Need-returns
 unfolding twoBytes
