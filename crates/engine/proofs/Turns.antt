@@ -15,7 +15,7 @@ use Rattle.sha2.specs.Sha256 as Sha256
 use Rattle.titles.specs.Compose.{composedText}
 use Rattle.engine.specs.Engine.{told, lastText, topOf, tops, Labelled}
 use Rattle.engine.specs.Judging.{Lent, Judges, Stands}
-use Rattle.faults.specs.Waiting.{faultOf, Alike}
+use Rattle.faults.specs.Waiting.{faultOf, AlikeColumns}
 use Rattle.stack.specs.Areas.{after, cost, Laid, Ready, Grows}
 use Rattle.engine.specs.declared.judge.Judged.{Judged}
 use Rattle.stack.specs.declared.Stack.{Stack}
@@ -50,7 +50,7 @@ module _ (types counts lengths values : List ℕ) (i at : ℕ) {s : Stack} {kind
     (w : Going types counts lengths values i at s kinds heights sizes work labels)
   where
     -- the columns of those that wait
-    pub waiting-alike : i ≤ length types → Alike (take (s .depth) kinds) (take (s .depth) heights) (take (s .depth) sizes)
+    pub waiting-alike : i ≤ length types → AlikeColumns (take (s .depth) kinds) (take (s .depth) heights) (take (s .depth) sizes)
     waiting-alike h =
         omega (
           arith,

@@ -26,12 +26,12 @@ faultOf (fault k) = k
 faultOf (next st c) = 0
 
 -- three columns of one length
-pub record Alike (kinds heights sizes : List ℕ) : Type 0 where
+pub record AlikeColumns (kinds heights sizes : List ℕ) : Type 0 where
   pub heights-long : length heights ≡ length kinds
   pub sizes-long : length sizes ≡ length kinds
 
 -- the three columns of a stack
-pub record Columns (st : List Tag) (kinds heights sizes : List ℕ) : Type 0 where
+pub record StackColumns (st : List Tag) (kinds heights sizes : List ℕ) : Type 0 where
   pub kinds-are : kinds ≡ map kindOf st
   pub heights-are : heights ≡ map heightOf st
   pub sizes-are : sizes ≡ map sizeOf st

@@ -5,7 +5,7 @@ use mathlib.Core.List.{List, [], _∷_, map}
 use lib.ListN.{length, take, drop, length-map}
 use Rattle.lists.specs.PartsLaws.{map-drop, tail-part}
 use Rattle.trees.specs.Rows.{Tag, highestOf, kids}
-use Rattle.faults.specs.Waiting.{kindOf, heightOf, greatest, Columns}
+use Rattle.faults.specs.Waiting.{kindOf, heightOf, greatest, StackColumns}
 
 pub greatest-is : (gs : List Tag) → greatest (map heightOf gs) ≡ highestOf gs
 unfolding greatest
@@ -13,7 +13,7 @@ greatest-is [] = refl
 greatest-is (g ∷ gs) = rw (greatest-is gs)
 
 -- Columns that are a stack's have its length.
-pub columns-long : {st : List Tag} {kinds heights sizes : List ℕ} → Columns st kinds heights sizes → length st ≡ length kinds
+pub columns-long : {st : List Tag} {kinds heights sizes : List ℕ} → StackColumns st kinds heights sizes → length st ≡ length kinds
 columns-long {st} cols = sym (ap length (cols .kinds-are) ∙ length-map st kindOf)
 
 -- the part `[d - k..]` of a stack's column is that of its last k nodes

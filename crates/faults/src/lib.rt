@@ -10,7 +10,7 @@ ghost use Rattle.trees.specs.Rules.{salted};
 ghost use Rattle.trees.specs.Rows.{Tag, headOf, stepOf, node, tip};
 ghost use Rattle.tables.specs.Tables.{entryOf};
 ghost use Rattle.titles.specs.Compose.{composedText};
-ghost use Rattle.faults.specs.Waiting.{Columns, Alike, kindOf, sizeOf, greatest, faultOf};
+ghost use Rattle.faults.specs.Waiting.{StackColumns, AlikeColumns, kindOf, sizeOf, greatest, faultOf};
 
 // "its highest child"
 pub fn highest(heights: &[u16]) -> usize
@@ -54,8 +54,8 @@ fn salt_rule(kinds: &[u16], sizes: &[u16]) -> bool
 
 // An internal node over the last `count` of those that wait.
 fn node_fault(count: usize, kinds: &[u16], heights: &[u16], sizes: &[u16]) -> usize
-    requires { ⌜ (0 < count) × Alike (now kinds) (now heights) (now sizes) ⌝ }
-    ensures { λ r. ⌜ ((H : List ℕ → List ℕ) (st : List Tag) → Columns st (now (kinds .entry)) (now (heights .entry)) (now (sizes .entry)) → r ≡ faultOf (stepOf H composedText st (node count))) ⌝ }
+    requires { ⌜ (0 < count) × AlikeColumns (now kinds) (now heights) (now sizes) ⌝ }
+    ensures { λ r. ⌜ ((H : List ℕ → List ℕ) (st : List Tag) → StackColumns st (now (kinds .entry)) (now (heights .entry)) (now (sizes .entry)) → r ≡ faultOf (stepOf H composedText st (node count))) ⌝ }
 {
     let depth = kinds.len();
     if depth < count {
@@ -101,8 +101,8 @@ pub fn fault(
     heights: &[u16],
     sizes: &[u16],
 ) -> usize
-    requires { ⌜ Alike (now kinds) (now heights) (now sizes) ⌝ }
-    ensures { λ r. ⌜ ((H : List ℕ → List ℕ) (st : List Tag) → Columns st (now (kinds .entry)) (now (heights .entry)) (now (sizes .entry)) → r ≡ faultOf (stepOf H composedText st (entryOf kind count (now (value .entry))))) ⌝ }
+    requires { ⌜ AlikeColumns (now kinds) (now heights) (now sizes) ⌝ }
+    ensures { λ r. ⌜ ((H : List ℕ → List ℕ) (st : List Tag) → StackColumns st (now (kinds .entry)) (now (heights .entry)) (now (sizes .entry)) → r ≡ faultOf (stepOf H composedText st (entryOf kind count (now (value .entry))))) ⌝ }
 {
     if count == 0 {
         leaf_fault(kind, value)

@@ -9,7 +9,7 @@ use Rattle.trees.specs.Rules.{maxHeight, labelBytes}
 use Rattle.trees.specs.Rows.{Entry, node, tip, Tag, headOf, highestOf, kids, below, parent}
 use Rattle.tables.specs.Tables.{sum}
 use Rattle.sha2.specs.Sha256 as Sha256
-use Rattle.faults.specs.Waiting.{greatest, Columns}
+use Rattle.faults.specs.Waiting.{greatest, StackColumns}
 use Rattle.stack.specs.declared.Stack.{Stack}
 use Rattle.stack.specs.declared.Parent.{Parent}
 
@@ -20,7 +20,7 @@ pieces st = prelabel (map headOf st)
 -- The stack st lies in the areas: its columns in the first `depth` cells, its pieces in the first `top` bytes.
 pub record Laid (st : List Tag) (depth top : ℕ) (kinds heights sizes work : List ℕ) : Type 0 where
   pub deep : length st ≡ depth
-  pub columns : Columns st (take depth kinds) (take depth heights) (take depth sizes)
+  pub columns : StackColumns st (take depth kinds) (take depth heights) (take depth sizes)
   pub work-is : take top work ≡ pieces st
   pub full : length (pieces st) ≡ top
 

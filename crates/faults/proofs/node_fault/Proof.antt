@@ -9,7 +9,7 @@ use lib.ListN.{length, take, drop, length-take, length-drop}
 use Rattle.outcomes.specs.Refusals.{saltBroken}
 use Rattle.trees.specs.Rows.{Tag, node, highestOf, kids, stepOf}
 use Rattle.titles.specs.Compose.{composedText}
-use Rattle.faults.specs.Waiting.{Columns, kindOf, heightOf, sizeOf, greatest, faultOf}
+use Rattle.faults.specs.Waiting.{StackColumns, kindOf, heightOf, sizeOf, greatest, faultOf}
 use Rattle.faults.specs.WaitingLaws.{kids-column, columns-long, greatest-is}
 use Rattle.faults.specs.Steps.{too-few, too-high, by-salt}
 use Rattle.faults.proofs.node_fault.Statement.{statement}
@@ -35,7 +35,7 @@ salt-rule-requires c κs =
 -- the highest of the last `count`
 highest-is :
     (st : List Tag) (count d high : ℕ) {kinds heights sizes : List ℕ}
-    → Columns st kinds heights sizes
+    → StackColumns st kinds heights sizes
     → length st ≡ d
     → high ≡ greatest (take (length heights - (d - count)) (drop (d - count) heights))
     → high ≡ highestOf (kids count st)
@@ -52,7 +52,7 @@ returns-2 c =
 
 -- both answers of the salt rule
 salt : (c : tie.After-salt-rule) (H : List ℕ → List ℕ) (st : List Tag) → let a = c .before .before .before .before .before .before .before .before .before .before .args in
-    Columns st (now (a .kinds)) (now (a .heights)) (now (a .sizes))
+    StackColumns st (now (a .kinds)) (now (a .heights)) (now (a .sizes))
     → cond (c .salt-rule .result) 0 saltBroken ≡ faultOf (stepOf H composedText st (node (a .count)))
 salt c H st cols =
     let a = c .before .before .before .before .before .before .before .before .before .before .args in
