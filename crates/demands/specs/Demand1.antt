@@ -37,7 +37,8 @@ use Rattle.outcomes.specs.Outcome.{over}
 use Rattle.slips.specs.SlipTree.{slipTree}
 use Rattle.slips.specs.SlipTreeLaws.{check-tree}
 use Rattle.pack.specs.Pack.{rowsOf, badRow, faultTests, faultOf, tabled, sizeTests, judgedTests, judgedAs, answerOf, packOf}
-use Rattle.unpack.specs.Unpack.{overAll, handedTests, handedOf, tableOf, unpackOf}
+use Rattle.handing.specs.Handing.{overAll, handedTests, handedOf}
+use Rattle.unpack.specs.Unpack.{tableOf, unpackOf}
 use Rattle.send.specs.Sent.{sentTests, sent, sentTree}
 use Rattle.prune_tables.specs.Pruned.{listTests, prunedOf}
 use Rattle.prune.specs.Prune.{slipTests, pruneOf}

@@ -30,7 +30,7 @@ use Rattle.slips.specs.Check.{countOf, checkOf}
 use Rattle.outcomes.specs.Outcome.{over}
 use Rattle.pack.specs.Pack.{answerOf, packOf}
 use Rattle.unpack.specs.Unpack.{tableIn, tableOf, unpackOf}
-use Rattle.unpack.specs.UnpackLaws.{Room}
+use Rattle.handing.specs.HandingLaws.{Room}
 use Rattle.slips.specs.SlipTrees.{SlipOf, check-complete, check-unique}
 use Rattle.pack.specs.PackTrees.{TableOf, treeAnswer, pack-tree, pack-outcome, pack-sound, pack-unique}
 use Rattle.pack.specs.RoundTrips.{written, Again, written-checks, slip-again, table-again}

@@ -23,7 +23,8 @@ use Rattle.slips.specs.Check.{headerBits, editionOf, countOf, readingOf, paddin
 use Rattle.outcomes.specs.Outcome.{Outcome}
 use Rattle.slips.specs.SlipTree.{slipTree}
 use Rattle.pack.specs.Pack.{rowsOf}
-use Rattle.unpack.specs.Unpack.{lacksRoom, tableOf}
+use Rattle.handing.specs.Handing.{lacksRoom}
+use Rattle.unpack.specs.Unpack.{tableOf}
 use Rattle.join_tables.specs.Joined.{tooLarge}
 use Rattle.demands.specs.InOrder.{Case, at, plain, on, among, InOrder}
 

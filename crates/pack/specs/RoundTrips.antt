@@ -26,8 +26,10 @@ use Rattle.slips.specs.SlipTrees.{SlipOf, check-complete, slip-rows}
 use Rattle.slips.specs.SlipTree.{slipTree}
 use Rattle.slips.specs.ByteTrees.{accepted-slip}
 use Rattle.tables.specs.Cells.{typeCell}
-use Rattle.unpack.specs.Unpack.{overAll, tableIn, tableOf, unpackOf}
-use Rattle.unpack.specs.UnpackLaws.{Room, handed-out, handed-told, in-over}
+use Rattle.handing.specs.Handing.{overAll}
+use Rattle.handing.specs.HandingLaws.{Room, handed-out, handed-told}
+use Rattle.unpack.specs.Unpack.{tableIn, tableOf, unpackOf}
+use Rattle.unpack.specs.UnpackLaws.{in-over}
 use Rattle.pack.specs.Pack.{rowsOf, answerOf, packOf}
 use Rattle.pack.specs.PackTrees.{table-of-formed, TableOf, table-rows, pack-complete, pack-outcome, pack-sound}
 

@@ -10,7 +10,8 @@ use Rattle.slips.specs.declared.open.Opened.{Opened}
 use Rattle.slips.specs.Check.{readingOf}
 use Rattle.slips.specs.Opening.{Opens}
 use Rattle.outcomes.specs.Outcome.{Leaves}
-use Rattle.unpack.specs.Unpack.{tableOf, handedOf}
+use Rattle.handing.specs.Handing.{handedOf}
+use Rattle.unpack.specs.Unpack.{tableOf}
 use Rattle.unpack.specs.CellsLaws.{table-back}
 
 -- the table opened is that of the rows read

@@ -1,6 +1,4 @@
 // A slip unpacked into the four buffers of a table.
-pub mod handing;
-
 use outcomes::Refusal;
 use slips::answer;
 use slips::answer::Answer;
@@ -15,7 +13,8 @@ ghost use Rattle.tables.specs.Tables.{table};
 ghost use Rattle.slips.specs.Check.{readingOf, bodyOf};
 ghost use Rattle.slips.specs.Opening.{Counted};
 ghost use Rattle.outcomes.specs.Outcome.{Leaves};
-ghost use Rattle.unpack.specs.Unpack.{handedOf, tableOf, unpackOf};
+ghost use Rattle.handing.specs.Handing.{handedOf};
+ghost use Rattle.unpack.specs.Unpack.{tableOf, unpackOf};
 
 // A slip whose header is taken.
 fn unpack_taken(

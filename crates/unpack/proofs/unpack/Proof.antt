@@ -6,7 +6,7 @@ use Rattle.slips.specs.declared.header.Header.{Header}
 use Rattle.slips.specs.Answers.{refused}
 use Rattle.unpack.specs.Unpack.{unpackOf}
 use Rattle.slips.specs.HeaderLaws.{header-told, check-refused, check-body}
-use Rattle.unpack.proofs.Copying.{handed-refused}
+use Rattle.handing.specs.HandingLaws.{handed-refused}
 use Rattle.unpack.proofs.Opened.{handed-as}
 use borrow.Author.Needs.{needs}
 use Rattle.unpack.proofs.unpack.Statement.{statement}

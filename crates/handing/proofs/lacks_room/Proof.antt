@@ -1,6 +1,6 @@
-use Rattle.unpack.proofs.Copying.{lacks-types, lacks-counts, lacks-lengths, lacks-values}
-use Rattle.unpack.proofs.handing.lacks_room.Statement.{statement}
-use Rattle.unpack.proofs.handing.lacks_room.Tie as tie
+use Rattle.handing.proofs.Copying.{lacks-types, lacks-counts, lacks-lengths, lacks-values}
+use Rattle.handing.proofs.lacks_room.Statement.{statement}
+use Rattle.handing.proofs.lacks_room.Tie as tie
 
 returns : tie.Need-returns
 returns c = lacks-types _ _ _ _ _ (c .if1 .taken)

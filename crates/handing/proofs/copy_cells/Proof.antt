@@ -5,10 +5,10 @@ use native.Mathlib.Omega.{arith}
 use denote.Ref.{now}
 use lib.ListN.{length, take, drop, getD, set, length-set}
 use lib.Seq.{take-length}
-use Rattle.unpack.proofs.Copying.{copied-more}
+use Rattle.handing.proofs.Copying.{copied-more}
 use borrow.Author.Needs.{needs}
-use Rattle.unpack.proofs.handing.copy_cells.Statement.{statement}
-use Rattle.unpack.proofs.handing.copy_cells.Tie as tie
+use Rattle.handing.proofs.copy_cells.Statement.{statement}
+use Rattle.handing.proofs.copy_cells.Tie as tie
 
 abbrev Inv-loop : tie.InvT-loop
 Inv-loop cells out₀ i₀ out i = (i ≤ length cells) × (length out ≡ length out₀) × (out ≡ take i cells ++ drop i out₀)

@@ -5,7 +5,7 @@ use mathlib.Core.List.{List, _++_}
 use mathlib.Core.Path.{_≡_, sym, ap, _∙_}
 use native.Mathlib.Nat.{le-of-lt}
 use native.Mathlib.Numerals.{add-one}
-use borrow.Author.Tests.{lt-ltb, le-ltb, ltb-false, eq-eqb, ne-eqb}
+use borrow.Author.Tests.{lt-ltb, le-ltb, ltb-false, eq-eqb}
 use lib.Dec.{ltb}
 use lib.ListN.{length, take, drop, getD, set}
 use lib.Seq.{drop-cons, take-suc, set-at, append-snoc, length-take-le, take-length}
@@ -15,7 +15,7 @@ use Rattle.outcomes.specs.Refusals.{accepted, noRoom}
 use Rattle.slips.specs.declared.answer.Answer.{Answer}
 use Rattle.slips.specs.Answers.{refused}
 use Rattle.outcomes.specs.Outcome.{over, Leaves}
-use Rattle.unpack.specs.Unpack.{lacksRoom, handedOf}
+use Rattle.handing.specs.Handing.{lacksRoom, handedOf}
 
 -- what `bytes::copy` leaves
 pub copied-whole : (x y : List ℕ) → take (length x) x ++ drop (length x) y ≡ over x y
@@ -80,43 +80,29 @@ fits-told t types counts lengths values e =
       values-fit = ltb-false values (length (t .values)) (or-right ((x || y) || z) w e);
     }
 
-module _ (a r : Answer) (t b : Table) (types counts lengths values : List ℕ) where
-  pub handed-refused :
-      (a .number ≡ accepted → ⊥)
-      → r ≡ a
+module _ (a r : Answer) (t b : Table) (types counts lengths values : List ℕ) (h : a .number ≡ accepted) where
+  pub handed-lacking :
+      lacksRoom t (length (b .types)) (length (b .counts)) (length (b .lengths)) (length (b .values)) ≡ true
+      → r ≡ refused noRoom 0
       → types ≡ b .types
       → counts ≡ b .counts
       → lengths ≡ b .lengths
       → values ≡ b .values
       → Leaves (handedOf a t b) r (table types counts lengths values)
   unfolding handedOf
-  handed-refused h e p q u v =
-      rw (ne-eqb (a .number) accepted h)
+  handed-lacking l e p q u v =
+      rw (eq-eqb (a .number) accepted h, l)
       (record { answered = e; written = λ i. table (p i) (q i) (u i) (v i) })
 
-  module _ (h : a .number ≡ accepted) where
-    pub handed-lacking :
-        lacksRoom t (length (b .types)) (length (b .counts)) (length (b .lengths)) (length (b .values)) ≡ true
-        → r ≡ refused noRoom 0
-        → types ≡ b .types
-        → counts ≡ b .counts
-        → lengths ≡ b .lengths
-        → values ≡ b .values
-        → Leaves (handedOf a t b) r (table types counts lengths values)
-    unfolding handedOf
-    handed-lacking l e p q u v =
-        rw (eq-eqb (a .number) accepted h, l)
-        (record { answered = e; written = λ i. table (p i) (q i) (u i) (v i) })
-
-    pub handed-taken :
-        lacksRoom t (length (b .types)) (length (b .counts)) (length (b .lengths)) (length (b .values)) ≡ false
-        → r ≡ a
-        → types ≡ over (t .types) (b .types)
-        → counts ≡ over (t .counts) (b .counts)
-        → lengths ≡ over (t .lengths) (b .lengths)
-        → values ≡ over (t .values) (b .values)
-        → Leaves (handedOf a t b) r (table types counts lengths values)
-    unfolding handedOf
-    handed-taken l e p q u v =
-        rw (eq-eqb (a .number) accepted h, l)
-        (record { answered = e; written = λ i. table (p i) (q i) (u i) (v i) })
+  pub handed-taken :
+      lacksRoom t (length (b .types)) (length (b .counts)) (length (b .lengths)) (length (b .values)) ≡ false
+      → r ≡ a
+      → types ≡ over (t .types) (b .types)
+      → counts ≡ over (t .counts) (b .counts)
+      → lengths ≡ over (t .lengths) (b .lengths)
+      → values ≡ over (t .values) (b .values)
+      → Leaves (handedOf a t b) r (table types counts lengths values)
+  unfolding handedOf
+  handed-taken l e p q u v =
+      rw (eq-eqb (a .number) accepted h, l)
+      (record { answered = e; written = λ i. table (p i) (q i) (u i) (v i) })

@@ -7,7 +7,7 @@ ghost use Prim.Native.Nat.{_≤_};
 ghost use lib.ListN.{length};
 ghost use Rattle.tables.specs.Tables.{table};
 ghost use Rattle.outcomes.specs.Outcome.{over, Leaves};
-ghost use Rattle.unpack.specs.Unpack.{handedOf, lacksRoom};
+ghost use Rattle.handing.specs.Handing.{handedOf, lacksRoom};
 
 fn copy_cells(cells: &[u16], out: &mut [u16])
     requires { ⌜ length (now cells) ≤ length (now out) ⌝ }

@@ -2,10 +2,11 @@ use mathlib.Core.Path.{refl, sym, _∙_}
 use denote.Ref.{now}
 use lib.ListN.{length}
 use Rattle.tables.specs.Tables.{table}
-use Rattle.unpack.proofs.Copying.{Fits, fits-told, handed-refused, handed-lacking, handed-taken, copied-whole}
+use Rattle.handing.proofs.Copying.{Fits, fits-told, handed-lacking, handed-taken, copied-whole}
+use Rattle.handing.specs.HandingLaws.{handed-refused}
 use borrow.Author.Needs.{needs}
-use Rattle.unpack.proofs.handing.hand_out.Statement.{statement}
-use Rattle.unpack.proofs.handing.hand_out.Tie as tie
+use Rattle.handing.proofs.hand_out.Statement.{statement}
+use Rattle.handing.proofs.hand_out.Tie as tie
 
 returns : tie.Need-returns
 returns c = handed-refused _ _ _ _ _ _ _ _ (c .if1 .taken) refl refl refl refl refl

@@ -1,0 +1,3 @@
+-- A table handed out behind an answer, and what is left in the buffers.
+pub mod Handing
+pub mod HandingLaws
