@@ -11,7 +11,7 @@ use Rattle.trees.specs.Nodes.{Node, label}
 use Rattle.trees.specs.Rules.{labelBytes}
 use Rattle.outcomes.specs.Refusals.{accepted}
 use Rattle.tables.specs.Records.{Holds}
-use Rattle.tables.specs.Tables.{entries, sum}
+use Rattle.tables.specs.Tables.{entries, sum, FormedIn}
 use Rattle.sha2.specs.Sha256 as Sha256
 use Rattle.join_rows.specs.Plans.{Two}
 use Rattle.slips.specs.declared.answer.Answer.{Answer}
@@ -108,20 +108,21 @@ holds-kept : (H : List ℕ → List ℕ) (n : Node) (ts cs ls vs bs ws zs : List
     → Holds H n ts cs ls ws zs
 holds-kept H n ts cs ls vs bs ws zs h v b =
     record {
-      counts-long = h .counts-long;
-      lengths-long = h .lengths-long;
-      few = h .few;
-      formed = h .formed;
-      area = front-long (sum ls) ws vs v (h .area);
-      rows-are =
-          sym (entries-part ts cs ls ws (front-long (sum ls) ws vs v (h .area)))
-          ∙ ap (entries ts cs ls) v
-          ∙ entries-part ts cs ls vs (h .area)
-          ∙ h .rows-are;
+      table =
+          record {
+            form = record { columns = form .columns; rows = form .rows; area = area };
+            rows-are = sym (entries-part ts cs ls ws area) ∙ ap (entries ts cs ls) v ∙ entries-part ts cs ls vs (form .area) ∙ h .table .rows-are;
+          };
       labels-room = front-long (labelBytes * length ts) zs bs b (h .labels-room);
       labels-are = λ i q inner. label-kept i q ∙ h .labels-are i q inner;
     }
   where
+    form : FormedIn ts cs ls vs
+    form = h .table .form
+
+    area : sum ls ≤ length ws
+    area = front-long (sum ls) ws vs v (form .area)
+
     label-kept : (i : ℕ) → i < length ts → take labelBytes (drop (labelBytes * i) zs) ≡ take labelBytes (drop (labelBytes * i) bs)
     label-kept i q =
         sym (drop-take (labelBytes * i) labelBytes zs)

@@ -14,7 +14,7 @@ use Rattle.bits.specs.InkLaws.{start, ink-start, ready-start, length-ink, rest-
 use Rattle.bits.specs.declared.pen.Pen.{Pen}
 use Rattle.trees.specs.Rows.{Entry}
 use Rattle.tables.specs.Limits.{edition, editionBits, countBits}
-use Rattle.tables.specs.Tables.{entryOf, entries, rowFits, firstBad, sum, Columns}
+use Rattle.tables.specs.Tables.{entryOf, entries, rowFits, firstBad, sum, Columns, FormedIn}
 use Rattle.tables.specs.TablesLaws.{length-entries}
 use Rattle.codec.specs.Writing.{entryBits, allBits, slipBits, slipOf}
 use Rattle.codec.specs.TableLaws.{entries-off, form-off, sum-off}
@@ -42,14 +42,14 @@ pub record Cells (T C L : List ℕ) (i t c l : ℕ) : Type 0 where
   pub count : c ≡ getD C i 0
   pub size : l ≡ getD L i 0
 
-pub begun : (T C L W : List ℕ) (p : Pen) (x : List ℕ) → Ready p x → firstBad 0 T C L ≡ length T → sum L ≤ length W → Penned p x T C L W p x 0 0
-begun T C L W p x r f h =
+pub begun : (T C L W : List ℕ) (p : Pen) (x : List ℕ) → Ready p x → FormedIn T C L W → Penned p x T C L W p x 0 0
+begun T C L W p x r f =
     record {
       done = [];
       wrote = record { bits = sym (append-nil (ink p x)); ready = r; size = omega arith; rest = refl };
       left = refl;
-      filled = omega arith;
-      form = f;
+      filled = omega (arith, f .area);
+      form = f .rows;
       few = omega arith;
     }
 
@@ -166,7 +166,7 @@ module _ (T C L W out : List ℕ) (a : WriteAsks T C L W out) where
       let es : List Entry = entries T C L W in
       let n : ℕ = length T in
       let both : Wrote start out (head n ++ allBits es) q y = wrote-both start out (head n) p x (allBits es) q y v w in
-      let rows : length es ≡ n = length-entries T C L W (a .columns .counts-long) (a .columns .lengths-long) in
+      let rows : length es ≡ n = length-entries T C L W (a .form .columns .counts-long) (a .form .columns .lengths-long) in
       let all : ink q y ≡ slipBits es =
       both .bits
       ∙ ap (λ (l : List ℕ). l ++ (head n ++ allBits es)) (ink-start out)

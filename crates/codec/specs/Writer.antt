@@ -3,7 +3,7 @@ use mathlib.Core.Path.{_≡_}
 use mathlib.Core.List.{List, _++_}
 use Prim.Native.Nat.{ℕ, _≤_, _<_, _^_}
 use lib.ListN.{length, drop}
-use Rattle.tables.specs.Tables.{Columns, entries, firstBad, sum}
+use Rattle.tables.specs.Tables.{FormedIn, entries}
 use Rattle.codec.specs.Writing.{slipOf}
 use Rattle.codec.specs.Measure.{tableBits}
 
@@ -11,11 +11,9 @@ pub record Measured (types counts lengths : List ℕ) (r : ℕ) : Type 0 where
   pub bits : r ≡ tableBits types counts lengths
   pub small : r < 2 ^ 30
 
--- a table whose rows are all of the form, with its values and room for its slip
+-- a table of the form, with its values and room for its slip
 pub record WriteAsks (types counts lengths values out : List ℕ) : Type 0 where
-  pub columns : Columns types counts lengths
-  pub form : firstBad 0 types counts lengths ≡ length types
-  pub filled : sum lengths ≤ length values
+  pub form : FormedIn types counts lengths values
   pub room : length (slipOf (entries types counts lengths values)) ≤ length out
 
 -- the slip's r bytes, and nothing behind them is touched

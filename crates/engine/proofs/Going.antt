@@ -93,7 +93,7 @@ pub lent-kept :
     → Lent types counts lengths values kinds′ heights′ sizes′ work′ labels′
 lent-kept types counts lengths values kinds′ heights′ sizes′ work′ labels′ g ek eh es ew el =
     record {
-      given = record { counts-long = g .given .counts-long; lengths-long = g .given .lengths-long; few = g .given .few; formed = g .given .formed; area = g .given .area; short = g .given .short; labels-room = omega arith };
+      given = record { form = g .given .form; short = g .given .short; labels-room = omega arith };
       kinds-room = omega arith;
       heights-room = omega arith;
       sizes-room = omega arith;

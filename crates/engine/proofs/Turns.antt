@@ -81,16 +81,16 @@ module _ (types counts lengths values : List ℕ) (i at : ℕ) {s : Stack} {kind
         entry = entryOf kind count value
 
         row-used : at + long + sum (drop (i + 1) lengths) ≡ sum lengths
-        row-used = omega (arith, sum-next lengths i (omega (arith, g .given .lengths-long)), w .used)
+        row-used = omega (arith, sum-next lengths i (omega (arith, g .given .form .columns .lengths-long)), w .used)
 
         pub value-fits : at + long ≤ length values
-        value-fits = omega (arith, row-used, g .given .area)
+        value-fits = omega (arith, row-used, g .given .form .area)
 
         value-long : length value ≡ long
         value-long = omega (arith, length-take (at + long - at) (drop at values), length-drop at values, value-fits)
 
         fits : rowFits kind count long ≡ true
-        fits = rw (ek, ec, el) (row-fits 0 types counts lengths i (omega (arith, g .given .formed)) inside)
+        fits = rw (ek, ec, el) (row-fits 0 types counts lengths i (omega (arith, g .given .form .rows)) inside)
 
         entry-formed : formed entry ≡ true
         entry-formed = row-formed kind count value (subst (λ (n : ℕ). rowFits kind count n ≡ true) (sym value-long) fits)
@@ -98,7 +98,7 @@ module _ (types counts lengths values : List ℕ) (i at : ℕ) {s : Stack} {kind
         rest-is : rest types counts lengths values i at ≡ entry ∷ rest types counts lengths values (i + 1) (at + long)
         rest-is =
             let n : at + long - at ≡ getD lengths i 0 = omega arith in
-            entries-next types counts lengths values i at inside (omega (arith, g .given .counts-long)) (omega (arith, g .given .lengths-long))
+            entries-next types counts lengths values i at inside (omega (arith, g .given .form .columns .counts-long)) (omega (arith, g .given .form .columns .lengths-long))
             ∙ rw (n, ek, ec, el)
 
         -- a refusal ends the run
@@ -150,9 +150,9 @@ module _ (types counts lengths values : List ℕ) (i at : ℕ) {s : Stack} {kind
                     g .work-room,
                   );
               labels-room = omega (arith, g .given .labels-room);
-              few = omega (arith, g .given .few, w .few);
-              small = omega (arith, g .given .few, w .low, w .small);
-              counted = omega (arith, g .given .few, w .counted);
+              few = omega (arith, g .given .form .columns .few, w .few);
+              small = omega (arith, g .given .form .columns .few, w .low, w .small);
+              counted = omega (arith, g .given .form .columns .few, w .counted);
             }
 
         -- and the run goes on
@@ -208,7 +208,7 @@ module _ (types counts lengths values : List ℕ) (i at : ℕ) {s : Stack} {kind
                     w .laid .full,
                     w .low,
                     w .small,
-                    g .given .few,
+                    g .given .form .columns .few,
                   );
             }
 

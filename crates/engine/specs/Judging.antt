@@ -4,22 +4,18 @@ use mathlib.Core.Path.{_≡_}
 use mathlib.Core.List.{List}
 use lib.ListN.{length, getD}
 use Rattle.trees.specs.Nodes.{headBytes}
-use Rattle.trees.specs.Rules.{maxNodes, maxBytes, labelBytes}
+use Rattle.trees.specs.Rules.{maxBytes, labelBytes}
 use Rattle.trees.specs.Rows.{verdict}
-use Rattle.tables.specs.Tables.{entries, firstBad, sum}
+use Rattle.tables.specs.Tables.{FormedIn, entries, sum}
 use Rattle.sha2.specs.Sha256 as Sha256
 use Rattle.titles.specs.Compose.{composedText}
 use Rattle.stack.specs.declared.Stack.{Stack}
 use Rattle.engine.specs.Engine.{told, Labelled}
 use Rattle.engine.specs.declared.judge.Judged.{Judged}
 
--- A table of the form, whose values area may be longer than the sum of lengths, and room for a label a row.
+-- A table of the form with no more values than a slip has bytes, and room for a label a row.
 pub record Given (types counts lengths values labels : List ℕ) : Type 0 where
-  pub counts-long : length counts ≡ length types
-  pub lengths-long : length lengths ≡ length types
-  pub few : length types ≤ maxNodes
-  pub formed : firstBad 0 types counts lengths ≡ length types
-  pub area : sum lengths ≤ length values
+  pub form : FormedIn types counts lengths values
   pub short : sum lengths ≤ maxBytes
   pub labels-room : labelBytes * length types ≤ length labels
 

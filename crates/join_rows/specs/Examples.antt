@@ -45,12 +45,11 @@ held : (v : ℕ) (vs ls : List ℕ) → entries (1 ∷ 600 ∷ 0 ∷ []) (0 ∷ 
 unfolding rowFits firstBad sum
 held v vs ls e h k l =
     record {
-      counts-long = refl;
-      lengths-long = refl;
-      few = omega arith;
-      formed = refl;
-      area = h;
-      rows-are = e;
+      table =
+          record {
+            form = record { columns = record { counts-long = refl; lengths-long = refl; few = omega arith }; rows = refl; area = h };
+            rows-are = e;
+          };
       labels-room = k;
       labels-are = labelled;
     }

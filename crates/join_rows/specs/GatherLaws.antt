@@ -16,7 +16,6 @@ use Rattle.join_rows.specs.FacesLaws.{rows-faces}
 use Rattle.columns.specs.Columns.{valueAt}
 use Rattle.columns.specs.Gathers.{cellOf, InRange, valuesOf}
 use Rattle.join_rows.specs.TablesLaws.{Shows, shown-bytes}
-use Rattle.join_rows.specs.TwoLaws.{counts-long, lengths-long}
 
 -- a plan that names what stands in fs is in range
 pub names-in-range : (fs : List Face) (plan : List ℕ) (xs : List Face) → Names noFace fs plan xs → InRange plan (length fs)
@@ -79,10 +78,16 @@ module _ (H : List ℕ → List ℕ) (fs : List Face) (types counts lengths valu
       → TreeTable c (map (cellOf types) plan) (map (cellOf counts) plan) (map (cellOf lengths) plan) (valuesOf plan lengths values offsets)
   named-table plan c h few =
       record {
-        counts-long = length-map plan (cellOf counts) ∙ sym (length-map plan (cellOf types));
-        lengths-long = length-map plan (cellOf lengths) ∙ sym (length-map plan (cellOf types));
+        form =
+            record {
+              columns =
+                  record {
+                    counts-long = length-map plan (cellOf counts) ∙ sym (length-map plan (cellOf types));
+                    lengths-long = length-map plan (cellOf lengths) ∙ sym (length-map plan (cellOf types));
+                    few = omega (arith, length-map plan (cellOf types));
+                  };
+              rows = named-formed 0 plan (faces H c) h ∙ omega (arith, length-map plan (cellOf types));
+              area = omega (arith, named-area plan (faces H c) h);
+            };
         rows-are = named-entries plan (faces H c) h ∙ rows-faces H c;
-        formed = named-formed 0 plan (faces H c) h ∙ omega (arith, length-map plan (cellOf types));
-        few = omega (arith, length-map plan (cellOf types));
-        area = omega (arith, named-area plan (faces H c) h);
       }

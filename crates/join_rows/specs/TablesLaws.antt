@@ -75,10 +75,10 @@ pub table-shows : (H : List ℕ → List ℕ) (n : Node) (ts cs ls vs labels : L
 table-shows H n ts cs ls vs labels t k h =
     record {
       entry =
-          sym (entry-at ts cs ls vs k h (t .counts-long) (t .lengths-long))
-          ∙ ap (λ (es : List Entry). getD es k noEntry) (t .rows-are ∙ sym (rows-faces H n))
+          sym (entry-at ts cs ls vs k h (t .table .form .columns .counts-long) (t .table .form .columns .lengths-long))
+          ∙ ap (λ (es : List Entry). getD es k noEntry) (t .table .rows-are ∙ sym (rows-faces H n))
           ∙ List·getD-map entryOfFace (faces H n) k noFace;
-      form = row-formed 0 ts cs ls (t .formed ∙ omega arith) (t .counts-long) (t .lengths-long) k h;
+      form = row-formed 0 ts cs ls (t .table .form .rows ∙ omega arith) (t .table .form .columns .counts-long) (t .table .form .columns .lengths-long) k h;
       label = λ p.
           t .labels-are k h p
           ∙ ap (λ (ls : List (List ℕ)). getD ls k []) (sym (labels-faces H n))
@@ -87,7 +87,7 @@ table-shows H n ts cs ls vs labels t k h =
 
 pub table-long : (H : List ℕ → List ℕ) (n : Node) (ts cs ls vs labels : List ℕ) → Holds H n ts cs ls vs labels → length ts ≡ size n
 table-long H n ts cs ls vs labels t =
-    sym (length-entries ts cs ls vs (t .counts-long) (t .lengths-long)) ∙ ap length (t .rows-are) ∙ length-rows n
+    sym (length-entries ts cs ls vs (t .table .form .columns .counts-long) (t .table .form .columns .lengths-long)) ∙ ap length (t .table .rows-are) ∙ length-rows n
 
 -- a row that names children has type 0 and no bytes
 inner-typed : (t c l : ℕ) → rowFits t c l ≡ true → 0 < c → (t ≡ 0) × (l ≡ 0)

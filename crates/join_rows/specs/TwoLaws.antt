@@ -35,10 +35,10 @@ module _ (H : List ℕ → List ℕ) (a b : Node) (first : ℕ) (types counts le
   all-rows = omega (arith, second-rows, first-low, first-rows)
 
   pub counts-long : length counts ≡ length types
-  counts-long = omega (arith, h .two .counts-long, length-drop first counts, length-drop first types, first-low)
+  counts-long = omega (arith, h .two .table .form .columns .counts-long, length-drop first counts, length-drop first types, first-low)
 
   pub lengths-long : length lengths ≡ length types
-  lengths-long = omega (arith, h .two .lengths-long, length-drop first lengths, length-drop first types, first-low)
+  lengths-long = omega (arith, h .two .table .form .columns .lengths-long, length-drop first lengths, length-drop first types, first-low)
 
   -- a row of the columns
   abbrev RowShows : ℕ → Type 0
@@ -86,8 +86,8 @@ module _ (H : List ℕ → List ℕ) (a b : Node) (first : ℕ) (types counts le
         arith,
         ap sum (take-append-drop first lengths),
         sum-append (take first lengths) (drop first lengths),
-        h .one .area,
-        h .two .area,
+        h .one .table .form .area,
+        h .two .table .form .area,
         length-drop (sum (take first lengths)) values,
       )
 

@@ -79,7 +79,7 @@ pub two-few : {H : List ℕ → List ℕ} {a b : Node} {first : ℕ} {types coun
     → Two H a b first types counts lengths values labels → length types ≤ 2 * maxNodes
 two-few {H} {a} {b} {first} {types} {counts} {lengths} {values} {labels} h =
     let low = first-low H a b first types counts lengths values labels h in
-    omega (arith, low, h .one .few, h .two .few, length-take-le first types (omega (arith, low)), length-drop first types)
+    omega (arith, low, h .one .table .form .columns .few, h .two .table .form .columns .few, length-take-le first types (omega (arith, low)), length-drop first types)
 
 module _ {first : ℕ} {types counts lengths values labels starts offsets cells : List ℕ} {p : Planned} (g : Surveyed counts lengths starts offsets) (few : p .rows ≤ maxNodes)
   where

@@ -74,11 +74,11 @@ module _ {types counts lengths values labels marks : List ℕ} (ready : Pickable
   module _ {i at rows used : ℕ} {ts cs ls vs : List ℕ} (g : Going lengths es xs marks i at rows used ts cs ls vs)
       (here : i < length types) (marked : i < length marks) where
     l-here : i < length lengths
-    l-here = omega (arith, ready .lengths-long)
+    l-here = omega (arith, ready .form .columns .lengths-long)
 
     -- the row's part of the area
     pub value-in : at + getD lengths i 0 ≤ length values
-    value-in = omega (arith, g .at-is, sum-front lengths i l-here, sum-within lengths (i + 1), ready .area)
+    value-in = omega (arith, g .at-is, sum-front lengths i l-here, sum-within lengths (i + 1), ready .form .area)
 
     -- the second area has room for it and for a label
     pub value-room : (k : ℕ) → sum lengths + labelBytes * length types ≤ k → used + getD lengths i 0 + labelBytes ≤ k
@@ -100,13 +100,13 @@ module _ {types counts lengths values labels marks : List ℕ} (ready : Pickable
           lengths-room = omega (arith, g .rows-low);
           values-room = omega (arith, value-room (length vs) room);
           long = ap length v-is ∙ length-take-le (getD lengths i 0) (drop at values) (omega (arith, value-in, length-drop at values));
-          fits = row-fits types counts lengths 0 i (ready .counts-long) (ready .lengths-long) (ready .formed ∙ omega arith) here;
+          fits = row-fits types counts lengths 0 i (ready .form .columns .counts-long) (ready .form .columns .lengths-long) (ready .form .rows ∙ omega arith) here;
         }
 
     module _ (v label : List ℕ) (v-is : v ≡ take (getD lengths i 0) (drop at values)) (label-is : label ≡ take labelBytes (drop (labelBytes * i) labels)) where
       entry-is : getD es i (tip 0 []) ≡ entryOf (getD types i 0) (getD counts i 0) v
       entry-is =
-          entries-at types counts lengths values i (tip 0 []) (ready .counts-long) (ready .lengths-long) here
+          entries-at types counts lengths values i (tip 0 []) (ready .form .columns .counts-long) (ready .form .columns .lengths-long) here
           ∙ ap (λ (k : ℕ). entryOf (getD types i 0) (getD counts i 0) (take (getD lengths i 0) (drop k values))) (sym (g .at-is))
           ∙ ap (entryOf (getD types i 0) (getD counts i 0)) (sym v-is)
 
@@ -114,7 +114,7 @@ module _ {types counts lengths values labels marks : List ℕ} (ready : Pickable
       label-at = label-rows-at (length types) labels i here ∙ sym label-is
 
       e-here : i < length es
-      e-here = omega (arith, length-entries types counts lengths values (ready .counts-long) (ready .lengths-long))
+      e-here = omega (arith, length-entries types counts lengths values (ready .form .columns .counts-long) (ready .form .columns .lengths-long))
 
       pub going-more :
           {next rows′ used′ : ℕ} {ts′ cs′ ls′ vs′ : List ℕ}
@@ -148,7 +148,7 @@ module _ {types counts lengths values labels marks : List ℕ} (ready : Pickable
       → Picks types counts lengths values labels marks rows used ts cs ls vs
   going-all {i} {rows = rows} {used} {ts} {cs} {ls} {vs} h k g =
       let past : drop i es ≡ [] =
-      drop-of-length-le es {i = i} (omega (arith, length-entries types counts lengths values (ready .counts-long) (ready .lengths-long))) in
+      drop-of-length-le es {i = i} (omega (arith, length-entries types counts lengths values (ready .form .columns .counts-long) (ready .form .columns .lengths-long))) in
       record {
         no-more = omega (arith, g .rows-low);
         table = subst (Written rows used ts cs ls vs) (sym (g .left ∙ ap (λ (x : List Entry). g .so-far ++ picked rowBy (drop i marks) x (drop i xs)) past

@@ -32,5 +32,6 @@ module _ {s : List ℕ} {rows : ℕ} {types counts lengths values labels : List 
   -- the column of counts has what the entries name
   pub counts-held : take rows counts ≡ map countCell (readingOf s .rows)
   counts-held =
-      sym (entries-counts (take rows types) (take rows counts) (take rows lengths) values (h .holds .counts-long) (h .holds .lengths-long))
-      ∙ ap (map countCell) (h .holds .rows-are ∙ sym (h .reads-as .rows-are))
+      let t = h .holds .table in
+      sym (entries-counts (take rows types) (take rows counts) (take rows lengths) values (t .form .columns .counts-long) (t .form .columns .lengths-long))
+      ∙ ap (map countCell) (t .rows-are ∙ sym (h .reads-as .rows-are))

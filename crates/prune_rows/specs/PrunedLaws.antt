@@ -80,17 +80,17 @@ module _ (H : List ℕ → List ℕ) (n : Node) (types counts lengths values lab
   es = entries types counts lengths values
 
   entries-long : length es ≡ length types
-  entries-long = length-entries types counts lengths values (holds .counts-long) (holds .lengths-long)
+  entries-long = length-entries types counts lengths values (holds .table .form .columns .counts-long) (holds .table .form .columns .lengths-long)
 
   size-is : size n ≡ length types
-  size-is = sym (length-rows n) ∙ ap length (sym (holds .rows-are)) ∙ entries-long
+  size-is = sym (length-rows n) ∙ ap length (sym (holds .table .rows-are)) ∙ entries-long
 
   marks-are : take (length es) marks ≡ marksOf (named list) 0 n
   marks-are =
-      ap (λ (k : ℕ). take k marks) (entries-long ∙ sym (holds .counts-long))
+      ap (λ (k : ℕ). take k marks) (entries-long ∙ sym (holds .table .form .columns .counts-long))
       ∙ marked
       ∙ ap (λ (cs : List ℕ). walk (named list) cs 0 atEnd .marks)
-      (sym (entries-counts types counts lengths values (holds .counts-long) (holds .lengths-long)) ∙ ap (map countCell) (holds .rows-are))
+      (sym (entries-counts types counts lengths values (holds .table .form .columns .counts-long) (holds .table .form .columns .lengths-long)) ∙ ap (map countCell) (holds .table .rows-are))
       ∙ ap (λ (w : Walk). w .marks) (walk-marks (named list) n 0 [])
       ∙ append-nil (marksOf (named list) 0 n)
 
@@ -101,7 +101,7 @@ module _ (H : List ℕ → List ℕ) (n : Node) (types counts lengths values lab
       ∙ ap (λ (ms : List ℕ). picked rowBy ms es (labelRows (length types) labels)) marks-are
       ∙ picked-agree rowBy [] (tip 0 []) (marksOf (named list) 0 n) es (labelRows (length types) labels) (labelsOf H n)
       (omega (arith, entries-long, length-label-rows (length types) labels)) (omega (arith, entries-long, size-is, length-labels H n)) agree
-      ∙ ap (λ (l : List Entry). picked rowBy (marksOf (named list) 0 n) l (labelsOf H n)) (holds .rows-are)
+      ∙ ap (λ (l : List Entry). picked rowBy (marksOf (named list) 0 n) l (labelsOf H n)) (holds .table .rows-are)
       ∙ picked-rows H (named list) 0 n
     where
       agree : (k : ℕ) → k < length es → (m : ℕ)
@@ -109,7 +109,7 @@ module _ (H : List ℕ → List ℕ) (n : Node) (types counts lengths values lab
           ≡ rowBy m (getD es k (tip 0 [])) (getD (labelsOf H n) k [])
       agree k h m =
           let in-table : k < length types = omega (arith, entries-long) in
-          rw (entries-at types counts lengths values k (tip 0 []) (holds .counts-long) (holds .lengths-long) in-table)
+          rw (entries-at types counts lengths values k (tip 0 []) (holds .table .form .columns .counts-long) (holds .table .form .columns .lengths-long) in-table)
           (same-row m (getD types k 0) (getD counts k 0) (take (getD lengths k 0) (drop (sum (take k lengths)) values))
           (getD (labelRows (length types) labels) k []) (getD (labelsOf H n) k [])
           (λ c. label-rows-at (length types) labels k in-table ∙ holds .labels-are k in-table c))

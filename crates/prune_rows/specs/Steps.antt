@@ -4,9 +4,9 @@ use mathlib.Core.Bool.{true}
 use mathlib.Core.Path.{_≡_}
 use mathlib.Core.List.{List, [], _∷_, _++_}
 use lib.ListN.{length, getD}
-use Rattle.trees.specs.Rules.{labelBytes, maxNodes}
+use Rattle.trees.specs.Rules.{labelBytes}
 use Rattle.trees.specs.Rows.{Entry}
-use Rattle.tables.specs.Tables.{entries, rowFits, firstBad, sum}
+use Rattle.tables.specs.Tables.{FormedIn, entries, rowFits}
 use Rattle.prune_rows.specs.Picked.{picked, rowBy, labelRows}
 use Rattle.prune_rows.specs.Contracts.{Written}
 
@@ -46,11 +46,7 @@ pub record Turn
 
 -- a table of the form with its labels and marks, of which only internal rows are cut off
 pub record Pickable (types counts lengths values labels marks : List ℕ) : Type 0 where
-  pub counts-long : length counts ≡ length types
-  pub lengths-long : length lengths ≡ length types
-  pub few : length types ≤ maxNodes
-  pub formed : firstBad 0 types counts lengths ≡ length types
-  pub area : sum lengths ≤ length values
+  pub form : FormedIn types counts lengths values
   pub labels-room : labelBytes * length types ≤ length labels
   pub cuts : (k : ℕ) → k < length types → 1 < getD marks k 0 → 0 < getD counts k 0
 

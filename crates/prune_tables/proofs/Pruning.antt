@@ -24,13 +24,9 @@ module _ {types counts lengths values labels list marks : List ℕ} (x : Prunabl
   pickable =
       let h = x .holds in
       record {
-        counts-long = h .counts-long;
-        lengths-long = h .lengths-long;
-        few = h .few;
-        formed = h .formed;
-        area = h .area;
+        form = h .table .form;
         labels-room = h .labels-room;
-        cuts = λ k l. marked-inner list counts marks (x .clean) marked k (omega (arith, h .counts-long));
+        cuts = λ k l. marked-inner list counts marks (x .clean) marked k (omega (arith, h .table .form .columns .counts-long));
       }
 
   pub prunes :

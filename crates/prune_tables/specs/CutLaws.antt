@@ -51,11 +51,17 @@ module _ {types counts lengths values labels list : List ℕ} {rows2 used : ℕ}
       let w = written in
       let long : length (take rows2 types2) ≡ rows2 = length-take-le rows2 types2 (w .types-room) in
       record {
-        counts-long = length-take-le rows2 counts2 (w .counts-room) ∙ sym long;
-        lengths-long = length-take-le rows2 lengths2 (w .lengths-room) ∙ sym long;
-        few = omega (arith, long, p .no-more, h .few);
-        formed = w .formed ∙ sym long;
-        area = omega (arith, w .sized, length-take-le used values2 (w .values-room));
+        form =
+            record {
+              columns =
+                  record {
+                    counts-long = length-take-le rows2 counts2 (w .counts-room) ∙ sym long;
+                    lengths-long = length-take-le rows2 lengths2 (w .lengths-room) ∙ sym long;
+                    few = omega (arith, long, p .no-more, h .table .form .columns .few);
+                  };
+              rows = w .formed ∙ sym long;
+              area = omega (arith, w .sized, length-take-le used values2 (w .values-room));
+            };
         rows-are = w .are ∙ sym (rows-pruned H list n);
       }
 

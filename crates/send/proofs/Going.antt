@@ -58,8 +58,8 @@ module _ {counts lengths stack : List ℕ} {d total i c l : ℕ} (g : Going coun
         counts-next = e;
         lengths-next = n;
         in-counts = h;
-        few = omega (arith, t .few, t .counts-long);
-        in-stack = omega (arith, t .few, t .counts-long);
+        few = omega (arith, t .form .columns .few, t .form .columns .counts-long);
+        in-stack = omega (arith, t .form .columns .few, t .form .columns .counts-long);
         waiting = w .0;
         short = omega arith;
         part-few = simp (length-take, length-drop) (omega (arith, w .0));

@@ -94,7 +94,7 @@ module _ (H : List ℕ → List ℕ) (long : (x : List ℕ) → length (H x) ≡
   -- the walk of a tree's table gives the tree's blocks
   pub blocks-tree : (n : Node) (ts cs ls vs : List ℕ) → TreeTable n ts cs ls vs → blocksFrom cs ls [] ≡ blocks H n
   blocks-tree n ts cs ls vs t =
-      columns-walked ts cs ls vs [] (t .counts-long) (t .lengths-long) (t .area)
+      columns-walked ts cs ls vs [] (t .form .columns .counts-long) (t .form .columns .lengths-long) (t .form .area)
       ∙ ap (λ (es : List Entry). entryBlocks es []) (t .rows-are ∙ sym (append-nil (rows n)))
       ∙ walk-rows n [] []
       ∙ add-zero (blocks H n)

@@ -1,21 +1,14 @@
 -- What sending asks and gives.
-use Prim.Native.Nat.{ℕ, _≤_}
+use Prim.Native.Nat.{ℕ}
 use mathlib.Core.List.{List}
 use mathlib.Core.Path.{_≡_}
 use lib.ListN.{length}
 use Rattle.trees.specs.Nodes.{Node, label}
 use Rattle.trees.specs.Rules.{labelBytes}
 use Rattle.tables.specs.Records.{TreeTable}
-use Rattle.tables.specs.Tables.{Columns, firstBad, sum}
 use Rattle.slips.specs.declared.answer.Answer.{Answer}
 use Rattle.outcomes.specs.Outcome.{Leaves}
 use Rattle.send.specs.Sent.{sentTree}
-
--- a table of the form, whose area may be longer than the sum of lengths
-pub record Sendable (types counts lengths values : List ℕ) : Type 0 where
-  pub columns : Columns types counts lengths
-  pub form : firstBad 0 types counts lengths ≡ length types
-  pub filled : sum lengths ≤ length values
 
 -- the table of some tree
 pub record SendTreeAsks (types counts lengths values : List ℕ) : Type 0 where

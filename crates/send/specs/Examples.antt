@@ -34,5 +34,5 @@ one-byte =
       tree = inner (cons (leaf 600 (7 ∷ [])) nil);
       types = 600 ∷ 0 ∷ [];
       values = 7 ∷ [];
-      table = record { counts-long = refl; lengths-long = refl; few = lit≤ tt; formed = refl; area = lit≤ tt; rows-are = refl };
+      table = record { form = record { columns = record { counts-long = refl; lengths-long = refl; few = lit≤ tt }; rows = refl; area = lit≤ tt }; rows-are = refl };
     }

@@ -58,7 +58,7 @@ mutual
 pub enough-tree : (n : Node) (ts cs ls vs : List ℕ) → TreeTable n ts cs ls vs → Enough cs 0
 enough-tree n ts cs ls vs t =
     subst (λ (l : List ℕ). Enough l 0)
-    (ap (map countOf) (append-nil (rows n) ∙ sym (t .rows-are)) ∙ counts-named ts cs ls vs (t .counts-long) (t .lengths-long))
+    (ap (map countOf) (append-nil (rows n) ∙ sym (t .rows-are)) ∙ counts-named ts cs ls vs (t .form .columns .counts-long) (t .form .columns .lengths-long))
     (enough-rows n [] 0 tt)
 
 -- a row of the form keeps the limits
@@ -84,8 +84,8 @@ pub table-low :
     → (getD cs i 0 ≤ maxChildren) × (getD ls i 0 ≤ maxValue)
 table-low n ts cs ls vs t i h =
     let f : Formed (table ts cs ls (take (sum ls) vs)) = record {
-      columns = record { counts-long = t .counts-long; lengths-long = t .lengths-long; few = t .few };
-      rows = t .formed;
-      area = length-take-le (sum ls) vs (t .area);
+      columns = t .form .columns;
+      rows = t .form .rows;
+      area = length-take-le (sum ls) vs (t .form .area);
     } in
     row-low (getD ts i 0) (getD cs i 0) (getD ls i 0) (formed-row (table ts cs ls (take (sum ls) vs)) f i h)

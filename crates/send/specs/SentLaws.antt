@@ -6,13 +6,11 @@ use borrow.Author.Tests.{lt-ltb, le-ltb}
 use lib.ListN.{length}
 use Rattle.trees.specs.Nodes.{Node, label, blocks}
 use Rattle.trees.specs.Rows.{Entry, rows}
-use Rattle.tables.specs.Records.{TreeTable}
 use Rattle.outcomes.specs.Refusals.{noRoom}
 use Rattle.codec.specs.Writing.{slipOf}
 use Rattle.slips.specs.declared.answer.Answer.{Answer}
 use Rattle.slips.specs.Answers.{refused, taken}
 use Rattle.outcomes.specs.Outcome.{over, Output, Leaves}
-use Rattle.send.specs.Contracts.{Sendable}
 use Rattle.send.specs.Sent.{sent, sentTree}
 
 module _ (es : List Entry) (b : ℕ) (l out : List ℕ) where
@@ -24,15 +22,6 @@ module _ (es : List Entry) (b : ℕ) (l out : List ℕ) where
       → Leaves (sent es b l out) r left
   unfolding sent
   sent-whole h e w = rw (le-ltb (length out) (length (slipOf es)) h) (record { answered = e; written = w })
-
--- the table of a tree can be sent
-pub tree-sendable : {n : Node} {types counts lengths values : List ℕ} → TreeTable n types counts lengths values → Sendable types counts lengths values
-tree-sendable t =
-    record {
-      columns = record { counts-long = t .counts-long; lengths-long = t .lengths-long; few = t .few };
-      form = t .formed;
-      filled = t .area;
-    }
 
 -- what is sent of a tree's entries with its blocks and label is that tree's
 pub sent-tree :

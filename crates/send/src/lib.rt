@@ -7,9 +7,9 @@ use outcomes::Refusal;
 use slips::answer;
 use slips::answer::Answer;
 use tables::limits::Slip;
-ghost use Rattle.tables.specs.Tables.{entries};
+ghost use Rattle.tables.specs.Tables.{entries, FormedIn};
 ghost use Rattle.outcomes.specs.Outcome.{Leaves};
-ghost use Rattle.send.specs.Contracts.{Sendable, SendTreeAsks, SendTreeGives};
+ghost use Rattle.send.specs.Contracts.{SendTreeAsks, SendTreeGives};
 ghost use Rattle.send.specs.Sent.{sent};
 
 // Writes the slip of a table whose blocks and root label are told, or answers 11.
@@ -22,7 +22,7 @@ pub fn send(
     label: [u8; Slip::LABEL_BYTES],
     out: &mut [u8],
 ) -> Answer
-    requires { ⌜ Sendable (now types) (now counts) (now lengths) (now values) ⌝ }
+    requires { ⌜ FormedIn (now types) (now counts) (now lengths) (now values) ⌝ }
     ensures { λ r. ⌜ Leaves (sent (entries (now (types .entry)) (now (counts .entry)) (now (lengths .entry)) (now (values .entry))) blocks label (now (out .entry))) r (now (out .exit)) ⌝ }
 {
     let bytes = measure::size(types, counts, lengths);

@@ -42,11 +42,12 @@ module _ {s : List ℕ} {n : ℕ} {types₀ counts₀ lengths₀ values₀ label
         let ls = length-take-le (r .rows) lengths lengths-in in
         let vs = length-take-le (r .used) values (f .room) in
         record {
-          counts-long = cs ∙ sym ts;
-          lengths-long = ls ∙ sym ts;
-          few = omega (arith, f .few, p .few);
-          formed = f .form ∙ sym ts;
-          area = omega (arith, f .used);
+          form =
+              record {
+                columns = record { counts-long = cs ∙ sym ts; lengths-long = ls ∙ sym ts; few = omega (arith, f .few, p .few) };
+                rows = f .form ∙ sym ts;
+                area = omega (arith, f .used);
+              };
           short = omega (arith, f .used, f .packed, f .within, p .long);
           labels-room = omega (arith, f .few, p .labels-room);
         }

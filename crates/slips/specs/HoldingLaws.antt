@@ -11,7 +11,7 @@ use Rattle.trees.specs.Rows.{Entry, rows}
 use Rattle.trees.specs.RowsLaws.{length-rows}
 use Rattle.trees.specs.RowLabelsLaws.{length-labels}
 use Rattle.outcomes.specs.Refusals.{accepted}
-use Rattle.tables.specs.Tables.{entryOf, entries, sum}
+use Rattle.tables.specs.Tables.{entryOf, entries, sum, Columns}
 use Rattle.engine.specs.Engine.{Labelled}
 use Rattle.sha2.specs.Sha256 as Sha256
 use Rattle.titles.specs.Compose.{composedText}
@@ -56,6 +56,14 @@ module _ {s : List ℕ} {r : Opened} {types counts lengths values labels : List 
   filled : sum (take (r .rows) lengths) ≤ length values
   filled = omega (arith, o .used, o .room)
 
+  columns : Columns (take (r .rows) types) (take (r .rows) counts) (take (r .rows) lengths)
+  columns =
+      record {
+        counts-long = length-take-le (r .rows) counts (omega (arith, o .few, m .counts-room)) ∙ sym long;
+        lengths-long = length-take-le (r .rows) lengths (omega (arith, o .few, m .lengths-room)) ∙ sym long;
+        few = omega (arith, long, o .few, m .few);
+      }
+
   pub holds-tree : HoldsTree s (r .rows) types counts lengths values labels
   holds-tree =
       let marked : Labelled Sha256.label composedText (rows (slipTree s)) (take (r .rows) counts) labels =
@@ -65,16 +73,15 @@ module _ {s : List ℕ} {r : Opened} {types counts lengths values labels : List 
         reads-as = is;
         holds =
             record {
-              counts-long = length-take-le (r .rows) counts (omega (arith, o .few, m .counts-room)) ∙ sym long;
-              lengths-long = length-take-le (r .rows) lengths (omega (arith, o .few, m .lengths-room)) ∙ sym long;
-              few = omega (arith, long, o .few, m .few);
-              formed = o .formed ∙ sym long;
-              area = filled;
-              rows-are =
-                  sym (entries-part (take (r .rows) types) (take (r .rows) counts) (take (r .rows) lengths) values filled)
-                  ∙ ap (λ (k : ℕ). entries (take (r .rows) types) (take (r .rows) counts) (take (r .rows) lengths) (take k values)) (sym (o .used))
-                  ∙ o .rows
-                  ∙ is .rows-are;
+              table =
+                  record {
+                    form = record { columns = columns; rows = o .formed ∙ sym long; area = filled };
+                    rows-are =
+                        sym (entries-part (take (r .rows) types) (take (r .rows) counts) (take (r .rows) lengths) values filled)
+                        ∙ ap (λ (k : ℕ). entries (take (r .rows) types) (take (r .rows) counts) (take (r .rows) lengths) (take k values)) (sym (o .used))
+                        ∙ o .rows
+                        ∙ is .rows-are;
+                  };
               labels-room = omega (arith, long, o .few, m .labels-room);
               labels-are = λ k h inner. labelled-tree Sha256.label composedText (slipTree s) (take (r .rows) counts) labels (is .well) marked k (omega (arith, h, long, sized, length-labels Sha256.label (slipTree s))) inner;
             };

@@ -4,28 +4,19 @@ use mathlib.Core.List.{List, []}
 use mathlib.Core.Path.{_≡_}
 use lib.ListN.{length, take, drop, getD}
 use Rattle.trees.specs.Nodes.{Node}
-use Rattle.trees.specs.Rules.{labelBytes, maxNodes}
+use Rattle.trees.specs.Rules.{labelBytes}
 use Rattle.trees.specs.Rows.{rows}
 use Rattle.trees.specs.RowLabels.{labelsOf}
-use Rattle.tables.specs.Tables.{entries, firstBad, sum}
+use Rattle.tables.specs.Tables.{FormedIn, entries}
 
 -- the table has the rows of the tree n
 pub record TreeTable (n : Node) (types counts lengths values : List ℕ) : Type 0 where
-  pub counts-long : length counts ≡ length types
-  pub lengths-long : length lengths ≡ length types
-  pub few : length types ≤ maxNodes
-  pub formed : firstBad 0 types counts lengths ≡ length types
-  pub area : sum lengths ≤ length values
+  pub form : FormedIn types counts lengths values
   pub rows-are : entries types counts lengths values ≡ rows n
 
 -- and the area of labels has those of its internal rows
 pub record Holds (H : List ℕ → List ℕ) (n : Node) (types counts lengths values labels : List ℕ) : Type 0 where
-  pub counts-long : length counts ≡ length types
-  pub lengths-long : length lengths ≡ length types
-  pub few : length types ≤ maxNodes
-  pub formed : firstBad 0 types counts lengths ≡ length types
-  pub area : sum lengths ≤ length values
-  pub rows-are : entries types counts lengths values ≡ rows n
+  pub table : TreeTable n types counts lengths values
   pub labels-room : labelBytes * length types ≤ length labels
   pub labels-are :
       (k : ℕ)

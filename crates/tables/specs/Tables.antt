@@ -85,3 +85,9 @@ pub record Formed (t : Table) : Type 0 where
   pub columns : Columns (t .types) (t .counts) (t .lengths)
   pub rows : firstBad 0 (t .types) (t .counts) (t .lengths) ≡ length (t .types)
   pub area : length (t .values) ≡ sum (t .lengths)
+
+-- a table of the form at the front of an area: the area may be longer than the sum of lengths
+pub record FormedIn (types counts lengths values : List ℕ) : Type 0 where
+  pub columns : Columns types counts lengths
+  pub rows : firstBad 0 types counts lengths ≡ length types
+  pub area : sum lengths ≤ length values

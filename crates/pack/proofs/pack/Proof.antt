@@ -18,9 +18,7 @@ write-requires : tie.Need-write-requires
 write-requires c κs =
     let r = c .before .before .before .answer-of .ensures .roomy (c .before .if1 .left) in
     record {
-      columns = r .form .columns;
-      form = r .form .rows;
-      filled = omega (arith, r .form .area);
+      form = record { columns = r .form .columns; rows = r .form .rows; area = omega (arith, r .form .area) };
       room = r .fits;
     }
 

@@ -6,13 +6,13 @@ use Rattle.prune_tables.proofs.cut_large.Tie as tie
 send-pruned-requires : tie.Need-send-pruned-requires
 send-pruned-requires c κs =
     let p = c .before .before .before .before .before .before .before .before .before .before .before .before .pre in
-    let h = p .asks .holds in (
+    let h = p .asks .holds .table .form in (
       p,
       record {
-        types-room = omega (arith, h .few);
-        counts-room = omega (arith, h .few);
-        lengths-room = omega (arith, h .few);
-        values-room = omega (arith, h .few, h .area, p .asks .most);
+        types-room = omega (arith, h .columns .few);
+        counts-room = omega (arith, h .columns .few);
+        lengths-room = omega (arith, h .columns .few);
+        values-room = omega (arith, h .columns .few, h .area, p .asks .most);
       },
     )
 

@@ -6,13 +6,13 @@ use Rattle.prune_tables.proofs.cut_small.Tie as tie
 send-pruned-requires : tie.Need-send-pruned-requires
 send-pruned-requires c κs =
     let p = c .before .before .before .before .before .before .before .before .before .before .before .before .pre .0 in
-    let h = p .asks .holds in (
+    let h = p .asks .holds .table .form in (
       p,
       record {
-        types-room = omega (arith, h .few, c .before .before .before .before .before .before .before .before .before .before .before .before .pre .1);
-        counts-room = omega (arith, h .few, c .before .before .before .before .before .before .before .before .before .before .before .before .pre .1);
-        lengths-room = omega (arith, h .few, c .before .before .before .before .before .before .before .before .before .before .before .before .pre .1);
-        values-room = omega (arith, h .few, h .area, p .asks .most, c .before .before .before .before .before .before .before .before .before .before .before .before .pre .1, c .before .before .before .before .before .before .before .before .before .before .before .before .pre .2);
+        types-room = omega (arith, h .columns .few, c .before .before .before .before .before .before .before .before .before .before .before .before .pre .1);
+        counts-room = omega (arith, h .columns .few, c .before .before .before .before .before .before .before .before .before .before .before .before .pre .1);
+        lengths-room = omega (arith, h .columns .few, c .before .before .before .before .before .before .before .before .before .before .before .before .pre .1);
+        values-room = omega (arith, h .columns .few, h .area, p .asks .most, c .before .before .before .before .before .before .before .before .before .before .before .before .pre .1, c .before .before .before .before .before .before .before .before .before .before .before .before .pre .2);
       },
     )
 

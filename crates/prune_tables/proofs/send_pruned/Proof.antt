@@ -16,13 +16,14 @@ use Rattle.prune_tables.proofs.send_pruned.Tie as tie
 mark-rows-requires : tie.Need-mark-rows-requires
 mark-rows-requires c κs =
     let p = c .before .before .before .before .before .before .before .before .before .before .before .before .pre .0 in
-    (omega (arith, p .asks .holds .few, p .asks .holds .counts-long), omega (arith, p .asks .holds .few, p .asks .holds .counts-long), p .clean)
+    let k = p .asks .holds .table .form .columns in
+    (omega (arith, k .few, k .counts-long), omega (arith, k .few, k .counts-long), p .clean)
 
 pick-requires : tie.Need-pick-requires
 pick-requires c κs =
     let p = c .before .before .before .before .before .before .before .before .before .before .before .before .before .before .before .before .before .before .before .pre in
     let m = c .before .before .before .before .before .before .mark-rows in
-    (pickable (able (p .0)) (m .ensures), (p .1, omega (arith, p .0 .asks .holds .few, m .kept .1 .1 .0)))
+    (pickable (able (p .0)) (m .ensures), (p .1, omega (arith, p .0 .asks .holds .table .form .columns .few, m .kept .1 .1 .0)))
 
 -- the second table is the pruned tree's
 prunes-at :

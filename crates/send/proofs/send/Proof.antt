@@ -17,7 +17,7 @@ sized :
     (c : tie.After-size)
     → let a = c .before .before .before .before .before .before .args in
     c .size .result ≡ length (slipOf (entries (now (a .types)) (now (a .counts)) (now (a .lengths)) (now (a .values))))
-sized c = c .size .ensures _ (c .before .before .before .before .before .before .pre .filled)
+sized c = c .size .ensures _ (c .before .before .before .before .before .before .pre .area)
 
 returns : tie.Need-returns
 returns c = sent-roomless _ _ _ _ (omega (arith, sized (c .before .before), c .before .if1 .taken)) (c .refused .ensures)
@@ -25,7 +25,7 @@ returns c = sent-roomless _ _ _ _ (omega (arith, sized (c .before .before), c .b
 write-requires : tie.Need-write-requires
 write-requires c κs =
     let p = c .before .before .before .before .before .before .before .before .pre in
-    record { columns = p .columns; form = p .form; filled = p .filled; room = omega (arith, sized (c .before .before), c .before .if1 .left) }
+    record { form = p; room = omega (arith, sized (c .before .before), c .before .if1 .left) }
 
 returns-2 : tie.Need-returns-2
 returns-2 c =

@@ -1,5 +1,5 @@
 use denote.Ref.{now}
-use Rattle.send.specs.SentLaws.{tree-sendable, sent-tree}
+use Rattle.send.specs.SentLaws.{sent-tree}
 use borrow.Author.Needs.{needs}
 use Rattle.send.proofs.send_tree.Statement.{statement}
 use Rattle.send.proofs.send_tree.Tie as tie
@@ -8,7 +8,7 @@ blocks-requires : tie.Need-blocks-requires
 blocks-requires c κs = let p = c .before .before .before .before .before .pre in record { tree = p .tree; types = now (c .before .before .before .before .before .args .types); values = now (c .before .before .before .before .before .args .values); table = p .table }
 
 send-requires : tie.Need-send-requires
-send-requires c κs = tree-sendable (c .before .before .before .before .before .before .before .pre .table)
+send-requires c κs = c .before .before .before .before .before .before .before .pre .table .form
 
 returns : tie.Need-returns
 returns c H long n t e = sent-tree H n _ _ _ _ (t .rows-are) (c .before .before .before .before .blocks2 .ensures H long n (now (c .before .before .before .before .before .before .before .before .before .before .args .types)) (now (c .before .before .before .before .before .before .before .before .before .before .args .values)) t) e (c .before .before .send .ensures)

@@ -39,7 +39,7 @@ loop-holds c =
 add-end : tie.Need-add-end Inv-loop μ-loop
 add-end c =
     let t = c .before .before .before .before .loop .inv in
-    omega (arith, t .going .small, t .lent .given .few, c .cell3 .ensures .1)
+    omega (arith, t .going .small, t .lent .given .form .columns .few, c .cell3 .ensures .1)
 
 -- row i ends within the values
 row-end : (c : tie.After-cell3 Inv-loop μ-loop) → c .before .before .before .before .loop .at + c .cell3 .result ≤ length (now (c .before .before .before .before .before .before .before .before .before .before .before .before .before .before .args .values))
@@ -109,7 +109,7 @@ grown-requires c κs =
     (sym (c .before .before .before .before .before .before .if1 .left) ∙ c .before .before .before .before .before .before .before .fault .ensures Sha256.label (l .inv .going .st) (l .inv .going .laid .columns))
 
 add-i : tie.Need-add-i Inv-loop μ-loop
-add-i c = omega (arith, c .before .before .before .before .before .before .before .before .before .before .before .before .before .before .before .before .before .before .before .before .before .before .before .before .before .before .loop-test .taken, c .before .before .before .before .before .before .before .before .before .before .before .before .before .before .before .before .before .before .before .before .before .before .before .before .before .before .before .loop .inv .lent .given .few)
+add-i c = omega (arith, c .before .before .before .before .before .before .before .before .before .before .before .before .before .before .before .before .before .before .before .before .before .before .before .before .before .before .loop-test .taken, c .before .before .before .before .before .before .before .before .before .before .before .before .before .before .before .before .before .before .before .before .before .before .before .before .before .before .before .loop .inv .lent .given .form .columns .few)
 
 loop-less : tie.Need-loop-less Inv-loop μ-loop
 loop-less c = omega (arith, c .before .before .before .before .before .before .before .before .before .before .before .before .before .before .before .before .before .before .before .before .before .before .before .before .before .before .loop-test .taken)

@@ -27,7 +27,7 @@ here c = row-here (c .before .before .before .loop .inv) (c .before .before .bef
 
 cell-requires-2 : tie.Need-cell-requires-2 Inv-loop μ-loop
 cell-requires-2 c κs =
-    let t = c .before .before .before .before .before .pre .table in
+    let t = c .before .before .before .before .before .pre .table .form .columns in
     omega (arith, t .counts-long, t .lengths-long, c .before .loop-test .taken)
 
 sub-base : tie.Need-sub-base Inv-loop μ-loop
