@@ -130,7 +130,7 @@ fn judge_in(
     settled(s, kinds, work)
 }
 
-// With a stack for at most 64 rows and 1,024 bytes of values.
+// With a stack for the rows and values of a small slip.
 fn small(types: &[u16], counts: &[u16], lengths: &[u16], values: &[u8], labels: &mut [u8]) -> Judged
     requires { ⌜ Within (now types) (now counts) (now lengths) (now values) (now labels) smallNodes smallBytes ⌝ }
     ensures { λ r. ⌜ Judges (now (types .entry)) (now (counts .entry)) (now (lengths .entry)) (now (values .entry)) r (now (labels .exit)) ⌝ }

@@ -55,7 +55,7 @@ fn join_in(
     )
 }
 
-// In areas for two slips of at most 1,024 bytes and 64 nodes each.
+// In areas for two small slips.
 fn small(s: &[u8], n: usize, u: &[u8], m: usize, out: &mut [u8]) -> Answer
     requires { ⌜ Headed (now s) n smallBytes smallNodes × Headed (now u) m smallBytes smallNodes ⌝ }
     ensures { λ r. ⌜ Leaves (joinOf Sha256.label composedText (now (s .entry)) (now (u .entry)) (now (out .entry))) r (now (out .exit)) ⌝ }

@@ -53,7 +53,7 @@ fn prune_in(
     )
 }
 
-// In areas for a slip of at most 1,024 bytes and 64 nodes.
+// In areas for a small slip.
 fn small(s: &[u8], n: usize, list: &[u16], out: &mut [u8]) -> Answer
     requires { ⌜ Counted (now s) n smallBytes smallNodes × (headerOf (now s) .number ≡ accepted) ⌝ }
     ensures { λ r. ⌜ Leaves (pruneOf Sha256.label composedText (now (s .entry)) (now (list .entry)) (now (out .entry))) r (now (out .exit)) ⌝ }

@@ -15,7 +15,7 @@ ghost use Rattle.titles.specs.Compose.{composedText};
 ghost use Rattle.slips.specs.Check.{bodyOf, checkOf};
 ghost use Rattle.slips.specs.Opening.{Counted};
 
-// In areas for a slip of at most 1,024 bytes and 64 nodes.
+// In areas for a small slip.
 fn small(s: &[u8], n: usize) -> Answer
     requires { ⌜ Counted (now s) n smallBytes smallNodes ⌝ }
     ensures { λ r. ⌜ r ≡ bodyOf Sha256.label composedText (now (s .entry)) ⌝ }

@@ -3,8 +3,8 @@ use Prim.Native.Nat.{ℕ}
 
 -- the code's `Small::BYTES`
 abbrev pub smallBytes : ℕ
-smallBytes = 1024
+smallBytes = 4608
 
 -- the code's `Small::NODES`
 abbrev pub smallNodes : ℕ
-smallNodes = 64
+smallNodes = 128

@@ -7,9 +7,9 @@ pub const HEAD: usize = 4;
 pub struct Small {}
 
 impl Small {
-    pub const BYTES: usize = 1024;
+    pub const BYTES: usize = 4608;
 
-    pub const NODES: usize = 64;
+    pub const NODES: usize = 128;
 
     pub const WORK: usize = HEAD * Small::NODES + Small::BYTES;
 
