@@ -11,7 +11,6 @@ use bytes::scan;
 use lines::input;
 use lines::parts;
 ghost use Prim.Native.Nat.{_≤_, _<_};
-ghost use lib.ListN.{length};
 
 // The longest line, in bytes.
 pub const LINE: usize = input::LINE;
@@ -40,21 +39,25 @@ struct Filled {
     cells: usize,
 }
 
-// Decodes the fields that `shape` names, a letter each: b for bytes, l for a list, n for a number. False where
-// the line has others, or more than an area holds.
+// Decodes the fields behind the first word of a line, those that `shape` names, a letter each: b for bytes, l for a list,
+// n for a number. False where the line has others, or more than an area holds, and where line or shape is too long.
 pub fn read(
     line: &[u8],
     shape: &[u8],
     cells: &mut [u16; CELLS],
     bytes: &mut [u8; BYTES],
     ends: &mut [usize; ENDS],
-) -> bool
-    requires { ⌜ length (now shape) < 10 ⌝ }
-{
+) -> bool {
+    if LINE < line.len() {
+        return false;
+    }
+    if FIELDS < shape.len() {
+        return false;
+    }
     ends[0] = 0;
     ends[PLACES] = 0;
     let mut to = Filled { bytes: 0, cells: 0 };
-    let mut at = 0;
+    let mut at = scan::find(line, 0, line.len(), b' ');
     let mut k = 0;
     while k < shape.len() {
         if line.len() <= at {

@@ -13,12 +13,6 @@ pub fn head(text: &mut [u8; page::BYTES], from: usize, a: Answer) -> usize {
     page::form(text, at, b"@ @ @ %", [a.side, a.length, a.blocks], &label)
 }
 
-// The same, and then the buffer.
-pub fn slip(text: &mut [u8; page::BYTES], from: usize, a: Answer, buffer: &[u8]) -> usize {
-    let at = head(text, from, a);
-    bytes(text, at, buffer)
-}
-
 // A column with a space before it.
 pub fn column(text: &mut [u8; page::BYTES], from: usize, cells: &[u16]) -> usize {
     let at = page::byte(text, from, b' ');

@@ -1,4 +1,6 @@
 // The calls that a request may name, and the fields that each asks for.
+use bytes::scan;
+use lines::parts;
 use lines::words;
 
 // The calls' numbers, in the order of the lines that have their words and their fields.
@@ -24,35 +26,27 @@ impl Call {
     pub const NONE: usize = 8;
 }
 
-pub fn named(word: &[u8]) -> usize {
+// The call that a line asks for, whose fields are then decoded: b for bytes, l for a list, n for a number.
+pub fn asked(
+    line: &[u8],
+    cells: &mut [u16; fields::CELLS],
+    bytes: &mut [u8; fields::BYTES],
+    ends: &mut [usize; fields::ENDS],
+) -> usize {
+    let call = named(line);
+    let shapes = b"b\nlllbn\nbnnnn\nbln\nbbn\nnlllblllb\nbn\nb\n";
+    if fields::read(line, words::line(shapes, call), cells, bytes, ends) {
+        call
+    } else {
+        Call::NONE
+    }
+}
+
+// The call that the first word of a line names.
+fn named(line: &[u8]) -> usize {
+    let end = scan::find(line, 0, line.len(), b' ');
     words::number(
         b"check\npack\nunpack\nprune\njoin\nfind\ncompose\nshow\n",
-        word,
+        parts::bytes(line, 0, end),
     )
-}
-
-// Whether a line has the fields of a call, which are then decoded: b for bytes, l for a list, n for a number.
-pub fn decoded(
-    call: usize,
-    line: &[u8],
-    cells: &mut [u16; fields::CELLS],
-    bytes: &mut [u8; fields::BYTES],
-    ends: &mut [usize; fields::ENDS],
-) -> bool {
-    let shapes = b"b\nlllbn\nbnnnn\nbln\nbbn\nnlllblllb\nbn\nb\n";
-    shaped(line, words::line(shapes, call), cells, bytes, ends)
-}
-
-// The same of a shape, of which there are no more than a line may have.
-fn shaped(
-    line: &[u8],
-    shape: &[u8],
-    cells: &mut [u16; fields::CELLS],
-    bytes: &mut [u8; fields::BYTES],
-    ends: &mut [usize; fields::ENDS],
-) -> bool {
-    if fields::FIELDS < shape.len() {
-        return false;
-    }
-    fields::read(line, shape, cells, bytes, ends)
 }

@@ -2,7 +2,6 @@
 use crate::answer;
 use crate::room;
 use lines::page;
-use lines::parts;
 use slips::answer::Answer;
 
 // check SLIP
@@ -29,13 +28,12 @@ pub fn unpack(
     let mut counts = [room::FILL_CELL; room::MOST];
     let mut lengths = [room::FILL_CELL; room::MOST];
     let mut values = [room::FILL; room::MOST];
-    let t = parts::cell_room(&types, fields::number(cells, ends, 1));
-    let c = parts::cell_room(&counts, fields::number(cells, ends, 2));
-    let l = parts::cell_room(&lengths, fields::number(cells, ends, 3));
-    let v = parts::byte_room(&values, fields::number(cells, ends, 4));
-    let slip = fields::text(bytes, ends, 0);
+    let t = fields::number(cells, ends, 1);
+    let c = fields::number(cells, ends, 2);
+    let l = fields::number(cells, ends, 3);
+    let v = fields::number(cells, ends, 4);
     unpacked(
-        slip,
+        fields::text(bytes, ends, 0),
         &mut types[..t],
         &mut counts[..c],
         &mut lengths[..l],

@@ -1,7 +1,6 @@
 // Requests for the public calls, a line each, and their answers.
 mod answer;
 mod call;
-mod composing;
 mod finding;
 mod forms;
 mod making;

@@ -1,9 +1,8 @@
-// The calls that make a slip, and fill an output: pack, prune and join.
+// The calls that fill an output: pack, prune and join with a slip, compose with a title.
 use crate::answer;
 use crate::call::Call;
 use crate::room;
 use lines::page;
-use lines::parts;
 use slips::answer::Answer;
 
 pub fn made(
@@ -15,13 +14,17 @@ pub fn made(
     at: usize,
 ) -> usize {
     let mut out = [room::FILL; room::MOST];
-    let n = parts::byte_room(&out, fields::number(cells, ends, last(call)));
+    let n = fields::number(cells, ends, last(call));
     told(call, cells, bytes, ends, &mut out[..n], text, at)
 }
 
 // Which field has the room.
 fn last(call: usize) -> usize {
-    if call == Call::PACK { 4 } else { 2 }
+    match call {
+        Call::PACK => 4,
+        Call::COMPOSE => 1,
+        _ => 2,
+    }
 }
 
 fn told(
@@ -33,10 +36,21 @@ fn told(
     text: &mut [u8; page::BYTES],
     at: usize,
 ) -> usize {
+    if call == Call::COMPOSE {
+        return compose(fields::text(bytes, ends, 0), out, text, at);
+    }
     let a = answered(call, cells, bytes, ends, out);
-    answer::slip(text, at, a, out)
+    let to = answer::head(text, at, a);
+    answer::bytes(text, to, out)
 }
 
+// compose TITLE ROOM: the answer has number, place and length, and the buffer
+fn compose(title: &[u8], out: &mut [u8], text: &mut [u8; page::BYTES], at: usize) -> usize {
+    let a = titles::compose(title, out);
+    page::form(text, at, b"@ @ @ %\n", [a.number, a.place, a.length], out)
+}
+
+// prune SLIP LIST ROOM, join SLIP SLIP ROOM, and pack
 fn answered(
     call: usize,
     cells: &[u16; fields::CELLS],
@@ -46,8 +60,16 @@ fn answered(
 ) -> Answer {
     match call {
         Call::PACK => pack(cells, bytes, ends, out),
-        Call::PRUNE => prune(cells, bytes, ends, out),
-        _ => join(bytes, ends, out),
+        Call::PRUNE => prune::prune(
+            fields::text(bytes, ends, 0),
+            fields::column(cells, ends, 1),
+            out,
+        ),
+        _ => join::join(
+            fields::text(bytes, ends, 0),
+            fields::text(bytes, ends, 1),
+            out,
+        ),
     }
 }
 
@@ -63,23 +85,4 @@ fn pack(
     let lengths = fields::column(cells, ends, 2);
     let values = fields::text(bytes, ends, 3);
     pack::pack(types, counts, lengths, values, out)
-}
-
-// prune SLIP LIST ROOM
-fn prune(
-    cells: &[u16; fields::CELLS],
-    bytes: &[u8; fields::BYTES],
-    ends: &[usize; fields::ENDS],
-    out: &mut [u8],
-) -> Answer {
-    let slip = fields::text(bytes, ends, 0);
-    let list = fields::column(cells, ends, 1);
-    prune::prune(slip, list, out)
-}
-
-// join SLIP SLIP ROOM
-fn join(bytes: &[u8; fields::BYTES], ends: &[usize; fields::ENDS], out: &mut [u8]) -> Answer {
-    let first = fields::text(bytes, ends, 0);
-    let second = fields::text(bytes, ends, 1);
-    join::join(first, second, out)
 }

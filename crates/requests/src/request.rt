@@ -2,41 +2,19 @@
 use crate::answer;
 use crate::call;
 use crate::call::Call;
-use crate::composing;
 use crate::finding;
 use crate::forms;
 use crate::making;
 use crate::showing;
-use bytes::scan;
 use lines::page;
-use lines::parts;
 
 // Answers a line behind the `at` bytes of the text.
 pub fn answered(line: &[u8], text: &mut [u8; page::BYTES], at: usize) -> usize {
     let mut cells = [0u16; fields::CELLS];
     let mut bytes = [0u8; fields::BYTES];
     let mut ends = [0usize; fields::ENDS];
-    let call = asked(line, &mut cells, &mut bytes, &mut ends);
+    let call = call::asked(line, &mut cells, &mut bytes, &mut ends);
     answer_to(call, &cells, &bytes, &ends, text, at)
-}
-
-// The number of the call that a line asks for, whose fields are then decoded.
-fn asked(
-    line: &[u8],
-    cells: &mut [u16; fields::CELLS],
-    bytes: &mut [u8; fields::BYTES],
-    ends: &mut [usize; fields::ENDS],
-) -> usize {
-    if fields::LINE < line.len() {
-        return Call::NONE;
-    }
-    let end = scan::find(line, 0, line.len(), b' ');
-    let call = call::named(parts::bytes(line, 0, end));
-    if call::decoded(call, &line[end..], cells, bytes, ends) {
-        call
-    } else {
-        Call::NONE
-    }
 }
 
 fn answer_to(
@@ -49,10 +27,11 @@ fn answer_to(
 ) -> usize {
     match call {
         Call::CHECK => forms::check(bytes, ends, text, at),
-        Call::PACK | Call::PRUNE | Call::JOIN => making::made(call, cells, bytes, ends, text, at),
+        Call::PACK | Call::PRUNE | Call::JOIN | Call::COMPOSE => {
+            making::made(call, cells, bytes, ends, text, at)
+        }
         Call::UNPACK => forms::unpack(cells, bytes, ends, text, at),
         Call::FIND => finding::find(cells, bytes, ends, text, at),
-        Call::COMPOSE => composing::compose(cells, bytes, ends, text, at),
         Call::SHOW => showing::show(bytes, ends, text, at),
         _ => answer::bad(text, at),
     }

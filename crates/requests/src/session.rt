@@ -20,7 +20,10 @@ fn serve(area: &mut [u8; input::ROOM], text: &mut [u8; page::BYTES]) {
     while 0 < turns {
         r = input::next(r, area);
         to = served(r, area, text, to);
-        if r.over || to == page::BROKEN {
+        if r.over {
+            break;
+        }
+        if to == page::BROKEN {
             break;
         }
         turns -= 1;

@@ -16,5 +16,6 @@ pub fn show(
 
 // The first n bytes of a page.
 fn told(text: &mut [u8; page::BYTES], at: usize, shown: &[u8; page::BYTES], n: usize) -> usize {
-    page::form(text, at, b"%\n", [0, 0, 0], parts::bytes(shown, 0, n))
+    let to = page::hex(text, at, parts::bytes(shown, 0, n));
+    page::byte(text, to, b'\n')
 }
