@@ -1,4 +1,5 @@
--- The columns of the nodes that wait, and the refusal that an entry meets.
+-- The columns of the nodes that wait, and the refusal of a step. Definitions:
 pub mod Waiting
+-- Laws:
 pub mod WaitingLaws
 pub mod Steps

@@ -1,17 +1,20 @@
--- What a call on slips answers, what a call with an output leaves in it, and what the check answers.
+-- What a call on slips answers, and what the check answers. Definitions, in reading order:
 pub mod Answers
 pub mod Check
-pub mod Opening
-pub mod HeaderLaws
-pub mod Verdicts
-pub mod Cases
-pub mod InTurn
--- The tree of an accepted slip.
-pub mod SlipTrees
 pub mod SlipTree
-pub mod SlipTreeLaws
+-- What a slip is opened in, and what the areas then hold.
+pub mod Opening
+pub mod Holding
+-- Document 01's marked cases, computed:
+pub mod Cases
+-- Theorems:
+pub mod InTurn
+pub mod SlipTrees
 pub mod ByteTrees
 pub mod SlipRefusals
+-- The laws behind them:
+pub mod HeaderLaws
+pub mod Verdicts
+pub mod SlipTreeLaws
 pub mod RowLabelLaws
-pub mod Holding
 pub mod HoldingLaws

@@ -1,3 +1,4 @@
--- How the areas hold the stack, and the pieces in the work area.
+-- How the areas hold the stack.
 pub mod Areas
+-- Laws:
 pub mod PieceLaws

@@ -1,8 +1,13 @@
+-- What the composer answers and leaves. Definitions, in reading order:
 pub mod Compose
+pub mod Goes
+-- What its scan gives.
 pub mod Scan
+-- Document 01's marked cases, computed:
+pub mod Cases
+-- Theorems:
+pub mod Titles
+pub mod GoesLaws
+-- The laws behind them:
 pub mod Pieces
 pub mod Outcomes
-pub mod Titles
-pub mod Goes
-pub mod GoesLaws
-pub mod Cases
