@@ -54,7 +54,12 @@ pub fn flush(page: &[u8; BYTES], at: usize) -> usize {
     if BYTES < at {
         return BROKEN;
     }
-    sent(parts::bytes(page, 0, at))
+    sent(front(page, at))
+}
+
+// The first `at` bytes of a page.
+pub fn front(page: &[u8; BYTES], at: usize) -> &[u8] {
+    parts::bytes(page, 0, at)
 }
 
 // Writes a text out; the page is empty then.
@@ -73,6 +78,14 @@ pub fn close(page: &[u8; BYTES], at: usize, program: &[u8]) {
     }
 }
 
+// The same of a program that reads lines: where a read failed, that is said too.
+pub fn ended(page: &[u8; BYTES], at: usize, program: &[u8], failed: bool) {
+    close(page, at, program);
+    if failed {
+        say(program, b"cannot read");
+    }
+}
+
 // A line on standard error: who says it, and what.
 pub fn say(program: &[u8], words: &[u8]) {
     let mut text = [0u8; BYTES];
@@ -83,7 +96,7 @@ pub fn say(program: &[u8], words: &[u8]) {
 
 // Writes what stands on the page to standard error.
 pub fn complain(page: &[u8; BYTES], at: usize) {
-    io::write_all(STDERR_FILENO, parts::bytes(page, 0, at));
+    io::write_all(STDERR_FILENO, front(page, at));
 }
 
 // A text by its pattern: `@` in it stands for the next of the numbers, `%` for the bytes in hex, `$` for the bytes as a

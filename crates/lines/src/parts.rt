@@ -71,13 +71,3 @@ pub fn byte_room(area: &[u8], asked: usize) -> usize
         area.len()
     }
 }
-
-pub fn cell_room(area: &[u16], asked: usize) -> usize
-    ensures { λ r. ⌜ Counts r (now (area .entry)) ⌝ }
-{
-    if asked < area.len() {
-        asked
-    } else {
-        area.len()
-    }
-}

@@ -28,7 +28,7 @@ fn serve(area: &mut [u8; input::ROOM], text: &mut [u8; page::BYTES]) {
         }
         turns -= 1;
     }
-    ended(r.failed, text, to);
+    page::ended(text, to, b"desk", r.failed);
 }
 
 // Answers a line; where there is none yet, the page is written out.
@@ -37,12 +37,5 @@ fn served(r: Input, area: &[u8; input::ROOM], text: &mut [u8; page::BYTES], to: 
         request::answered(parts::bytes(area, r.from, r.to), text, to)
     } else {
         page::flush(text, to)
-    }
-}
-
-fn ended(failed: bool, text: &[u8; page::BYTES], to: usize) {
-    page::close(text, to, b"desk");
-    if failed {
-        page::say(b"desk", b"cannot read");
     }
 }
