@@ -88,9 +88,5 @@ fn told(
 }
 
 fn refused(text: &mut [u8; page::BYTES], from: usize, r: Composed) -> usize {
-    let mut to = page::word(text, from, b"refused ");
-    to = page::decimal(text, to, r.number);
-    to = page::byte(text, to, b' ');
-    to = page::decimal(text, to, r.place);
-    page::byte(text, to, b'\n')
+    page::numbered(text, from, b"refused @ @\n", [r.number, r.place, 0])
 }

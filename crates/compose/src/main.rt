@@ -28,15 +28,15 @@ fn run(area: &mut [u8; input::ROOM], text: &mut [u8; page::BYTES], bare: bool) {
         r = input::next(r, area);
         line = num::wrapping_add_usize(line, r.line as usize);
         to = turn(area, r, line, text, to, bare);
-        if r.over || to == page::BROKEN {
+        if r.over {
+            break;
+        }
+        if to == page::BROKEN {
             break;
         }
         turns -= 1;
     }
-    page::close(text, to, b"compose");
-    if r.failed {
-        page::say(b"compose", b"cannot read");
-    }
+    page::ended(text, to, b"compose", r.failed);
 }
 
 // Answers a line. Where none is whole, the answers are written out.

@@ -7,24 +7,19 @@ use titles::Title;
 ghost use Prim.Native.Nat.{_<_};
 
 pub fn complain(text: &mut [u8; page::BYTES], line: usize, title: &[u8], r: Composed) {
-    let mut to = begun(text, line);
-    to = placed(text, to, r);
-    to = reason(text, to, title, r);
-    to = page::byte(text, to, b'\n');
+    let at = begun(text, line, r);
+    let end = reason(text, at, title, r);
+    let to = page::byte(text, end, b'\n');
     page::complain(text, to);
 }
 
-fn begun(text: &mut [u8; page::BYTES], line: usize) -> usize {
-    let mut to = page::word(text, 0, b"line ");
-    to = page::decimal(text, to, line);
-    page::word(text, to, b": refused ")
-}
-
-fn placed(text: &mut [u8; page::BYTES], at: usize, r: Composed) -> usize {
-    let mut to = page::decimal(text, at, r.number);
-    to = page::word(text, to, b" at ");
-    to = page::decimal(text, to, r.place);
-    page::word(text, to, b": ")
+fn begun(text: &mut [u8; page::BYTES], line: usize, r: Composed) -> usize {
+    page::numbered(
+        text,
+        0,
+        b"line @: refused @ at @: ",
+        [line, r.number, r.place],
+    )
 }
 
 fn reason(text: &mut [u8; page::BYTES], at: usize, title: &[u8], r: Composed) -> usize {
@@ -42,18 +37,12 @@ fn reason(text: &mut [u8; page::BYTES], at: usize, title: &[u8], r: Composed) ->
 }
 
 fn long(text: &mut [u8; page::BYTES], at: usize) -> usize {
-    let mut to = page::word(text, at, b"longer than ");
-    to = page::decimal(text, to, Title::MAX_BYTES);
-    page::word(text, to, b" bytes")
+    page::numbered(text, at, b"longer than @ bytes", [Title::MAX_BYTES, 0, 0])
 }
 
 fn ill(text: &mut [u8; page::BYTES], at: usize, title: &[u8], place: usize) -> usize {
-    let to = page::word(text, at, b"not UTF-8: byte ");
-    page::hex(
-        text,
-        to,
-        parts::bytes(title, place, parts::end(title, place, 1)),
-    )
+    let byte = parts::bytes(title, place, parts::end(title, place, 1));
+    page::form(text, at, b"not UTF-8: byte %", [0, 0, 0], byte)
 }
 
 fn character(title: &[u8], place: usize) -> u32 {
