@@ -4,36 +4,24 @@ use commands::messages;
 use commands::refusals;
 use lines::page;
 use outcomes::Refusal;
+use std::num;
 
-// How many bytes stand on the page behind a file's line, and whether the line tells a refusal.
-struct Line {
+// How many bytes stand on the page, and how many files were refused.
+struct Told {
     to: usize,
-    refused: bool,
+    refused: usize,
 }
 
 // A line for each argument that names a file, and behind them how many were refused.
 pub fn check(count: usize) {
     let mut text = [0u8; page::BYTES];
-    let mut to = 0;
-    let mut refused = 0;
+    let mut told = Told { to: 0, refused: 0 };
     let mut i = 2;
     while i < count {
-        let line = file(&mut text, to, i);
-        to = line.to;
-        refused = counted(refused, line.refused);
+        told = file(&mut text, told, i);
         i += 1;
     }
-    ended(&text, to, refused, i - 2);
-}
-
-// One more where there is one.
-fn counted(n: usize, one: bool) -> usize {
-    if one {
-        if n < usize::MAX {
-            return n + 1;
-        }
-    }
-    n
+    ended(&text, told.to, told.refused, i - 2);
 }
 
 fn ended(text: &[u8; page::BYTES], to: usize, refused: usize, files: usize) {
@@ -46,29 +34,26 @@ fn ended(text: &[u8; page::BYTES], to: usize, refused: usize, files: usize) {
     }
 }
 
-fn file(text: &mut [u8; page::BYTES], from: usize, i: usize) -> Line {
+fn file(text: &mut [u8; page::BYTES], told: Told, i: usize) -> Told {
     let mut space = [0u8; files::ROOM];
     let n = files::read(i, &mut space);
     if n == files::UNREAD {
-        return Line {
-            to: from,
-            refused: false,
-        };
+        return told;
     }
-    checked(text, from, i, files::front(&space, n))
+    checked(text, told, i, files::front(&space, n))
 }
 
-fn checked(text: &mut [u8; page::BYTES], from: usize, i: usize, slip: &[u8]) -> Line {
+fn checked(text: &mut [u8; page::BYTES], told: Told, i: usize, slip: &[u8]) -> Told {
     let a = slips::check::check(slip);
     if a.number == Refusal::ACCEPTED {
         let label = a.label;
-        return Line {
-            to: refusals::accepted(text, from, i, a.length, a.blocks, &label),
-            refused: false,
+        return Told {
+            to: refusals::accepted(text, told.to, i, a.length, a.blocks, &label),
+            refused: told.refused,
         };
     }
-    Line {
-        to: refusals::refused(text, from, i, a.number, a.place),
-        refused: true,
+    Told {
+        to: refusals::refused(text, told.to, i, a.number, a.place),
+        refused: num::wrapping_add_usize(told.refused, 1),
     }
 }

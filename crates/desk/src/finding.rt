@@ -6,12 +6,9 @@ use commands::messages;
 
 pub fn find(count: usize) {
     let kind = arguments::number(2);
-    if kind < fields::OVER {
-        searched(kind, count);
+    if fields::OVER <= kind {
+        return;
     }
-}
-
-fn searched(kind: u32, count: usize) {
     let mut i = 3;
     while i < count {
         if ended_by(kind, i) {

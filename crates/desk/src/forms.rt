@@ -1,4 +1,4 @@
-// desk unpack, desk pack and desk tree: what is made of one file, argument 2.
+// desk unpack, desk pack and desk tree: what is made of the file of argument 2. desk join begins with it too.
 use crate::making;
 use crate::table;
 use commands::command::Command;
@@ -20,14 +20,13 @@ pub fn of_file(command: usize) {
 
 fn formed(command: usize, bytes: &[u8]) {
     match command {
-        Command::UNPACK => unpack(bytes),
+        Command::UNPACK => {
+            table::told(table::ALL, 2, bytes);
+        }
         Command::PACK => pack(bytes),
+        Command::JOIN => making::join(bytes),
         _ => tree(bytes),
     }
-}
-
-fn unpack(slip: &[u8]) {
-    table::told(table::ALL, 2, slip);
 }
 
 fn tree(slip: &[u8]) {

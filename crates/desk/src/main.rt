@@ -29,9 +29,8 @@ fn run(command: usize, count: usize) {
     }
     match command {
         Command::CHECK => checking::check(count),
-        Command::TREE..=Command::PACK => forms::of_file(command),
+        Command::TREE..=Command::PACK | Command::JOIN => forms::of_file(command),
         Command::PRUNE => making::prune(count),
-        Command::JOIN => making::join(),
         Command::FIND => finding::find(count),
         Command::CALLS => session::run(),
         Command::VERSION => messages::version(),

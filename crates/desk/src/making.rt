@@ -64,15 +64,8 @@ fn rising(list: &[u16], place: usize) -> bool {
     parts::cell(list, place - 1) < parts::cell(list, place)
 }
 
-pub fn join() {
-    let mut first = [0u8; files::ROOM];
-    let n = files::read(2, &mut first);
-    if n != files::UNREAD {
-        join_with(files::front(&first, n));
-    }
-}
-
-fn join_with(first: &[u8]) {
+// Joins a slip with the file of argument 3.
+pub fn join(first: &[u8]) {
     let mut second = [0u8; files::ROOM];
     let n = files::read(3, &mut second);
     if n != files::UNREAD {

@@ -1,17 +1,18 @@
--- `desk::finding::searched` is safe and ends.
+-- `desk::finding::find` is safe and ends.
 use Prim.Native.Nat.{_-_}
 use borrow.Author.Needs.{needs}
-use Rattle.desk.proofs.finding.searched.Statement.{statement}
-use Rattle.desk.proofs.finding.searched.Tie as tie
+use Rattle.desk.proofs.finding.find.Statement.{statement}
+use Rattle.desk.proofs.finding.find.Tie as tie
 
 abbrev Inv-loop : tie.InvT-loop
-Inv-loop kind count i₀ t4 i = Unit {0}
+Inv-loop count kind i₀ t4 i = Unit {0}
 
 abbrev μ-loop : tie.MeasureT-loop
-μ-loop kind count i₀ t4 i = count - i
+μ-loop count kind i₀ t4 i = count - i
 
-pub searched-spec : {M : Type 1} → statement M
-searched-spec =
-    tie.close (tie.spec Inv-loop μ-loop (λ c. search needs) (λ c κs. search needs)
-    (λ c. search needs) (λ c. search needs) (λ c. search needs) (λ c. search needs)
-    (λ c. search needs) (λ c κs. search needs) (λ c. search needs))
+pub find-spec : {M : Type 1} → statement M
+find-spec =
+    tie.close (tie.spec Inv-loop μ-loop (λ c κs. search needs) (λ c. search needs)
+    (λ c. search needs) (λ c κs. search needs) (λ c. search needs) (λ c. search needs)
+    (λ c. search needs) (λ c. search needs) (λ c. search needs) (λ c κs. search needs)
+    (λ c. search needs))
