@@ -14,7 +14,7 @@ use Rattle.lists.specs.PartsLaws.{copied}
 use Rattle.bits.specs.Bits.{bitsIn, bitsOf, packed}
 use Rattle.bits.specs.FieldLaws.{length-bitsIn, bits-mod, bits-split, bits-join, bits-zero}
 use Rattle.bits.specs.ByteLaws.{length-bitsOf, bitsOf-append, packed-is}
-use Rattle.bits.specs.Ink.{ink, Room, Wrote, Finished}
+use Rattle.bits.specs.Ink.{ink, PutAsks, PutGives, FinishGives}
 use Rattle.bits.specs.declared.pen.Pen.{Pen}
 use Rattle.bits.proofs.Windows.{one-shl}
 
@@ -59,11 +59,11 @@ rest-more out₀ out at x e =
     drop-set-lt (at + 1) out at x (omega arith) ∙ sym (drop-drop 1 at out) ∙ ap (drop 1) e ∙ drop-drop 1 at out₀
 
 -- a field is written
-pub field-written : (pen : Pen) (v n : ℕ) (out out′ : List ℕ) (held at : ℕ) → Room pen n out → n ≤ 16 → v < 2 ^ n
+pub field-written : (pen : Pen) (v n : ℕ) (out out′ : List ℕ) (held at : ℕ) → PutAsks pen n out → n ≤ 16 → v < 2 ^ n
     → (let w : ℕ = pen .acc * 2 ^ n % 2 ^ 64 + v in
     bitsOf (take at out′) ++ bitsIn held w ≡ bitsOf (take (pen .at) out) ++ bitsIn (pen .held + n) w)
     → held < 8 → 8 * at + held ≡ 8 * pen .at + (pen .held + n) → length out′ ≡ length out → drop at out′ ≡ drop at out
-    → Wrote pen out (bitsIn n v) (record { acc = (pen .acc * 2 ^ n % 2 ^ 64 + v) % (1 * 2 ^ held % 2 ^ 64); held = held; at = at }) out′
+    → PutGives pen out (bitsIn n v) (record { acc = (pen .acc * 2 ^ n % 2 ^ 64 + v) % (1 * 2 ^ held % 2 ^ 64); held = held; at = at }) out′
 unfolding ink
 field-written pen v n out out′ held at room h small e few size same rest =
     let w : ℕ = pen .acc * 2 ^ n % 2 ^ 64 + v in
@@ -113,9 +113,9 @@ shifted-in acc held src dst j rest x few hs hd ex small e =
     ∙ ap bitsOf (sym (take-suc src j 0 hs) ∙ ap (λ (k : ℕ). take k src) (sym (add-one j))))
 
 -- a run is written into a part of out
-pub run-written : (pen : Pen) (acc : ℕ) (src out part : List ℕ) → Room pen (8 * length src) out → length part ≡ length src → acc < 2 ^ pen .held
+pub run-written : (pen : Pen) (acc : ℕ) (src out part : List ℕ) → PutAsks pen (8 * length src) out → length part ≡ length src → acc < 2 ^ pen .held
     → bitsOf part ++ bitsIn (pen .held) acc ≡ bitsIn (pen .held) (pen .acc) ++ bitsOf src
-    → Wrote pen out (bitsOf src) (record { acc = acc; held = pen .held; at = pen .at + length src })
+    → PutGives pen out (bitsOf src) (record { acc = acc; held = pen .held; at = pen .at + length src })
     (take (pen .at) out ++ (part ++ drop (pen .at + length src - pen .at) (drop (pen .at) out)))
 unfolding ink
 run-written pen acc src out part room long small e =
@@ -156,7 +156,7 @@ run-aligned held acc src dst part none same e =
 
 -- where the last byte is filled with zero bits, what was written is packed
 pub finished : (pen : Pen) (out : List ℕ) (last : Pen) (out′ : List ℕ) → pen .held < 8 → Below 256 out′
-    → Wrote pen out (bitsIn ((8 - pen .held) % 8) 0) last out′ → Finished pen out (last .at) out′
+    → PutGives pen out (bitsIn ((8 - pen .held) % 8) 0) last out′ → FinishGives pen out (last .at) out′
 unfolding ink bitsIn
 finished pen out last out′ few bytes w =
     let g : ℕ = (8 - pen .held) % 8 in

@@ -15,7 +15,7 @@ use Rattle.lists.specs.PartsLaws.{part-within, copied}
 use Rattle.bits.specs.Bits.{bitsIn, bitsOf, numOf, octets}
 use Rattle.bits.specs.FieldLaws.{num-append, num-field, num-part}
 use Rattle.bits.specs.ByteLaws.{length-bitsOf, bitsOf-append, drop-bitsOf, octets-bitsOf}
-use Rattle.bits.specs.Reads.{FieldRead}
+use Rattle.bits.specs.Reads.{FieldGives}
 
 -- `1 << n`
 pub one-shl : (n : ℕ) → n ≤ 16 → 1 * 2 ^ n % 2 ^ 64 ≡ 2 ^ n
@@ -59,7 +59,7 @@ three-first (a ∷ b ∷ c ∷ t) = refl
 -- what the code reads of the three bytes, each 0 past the end
 pub field-read : (s : List ℕ) (at n : ℕ) {a b c : ℕ} → n ≤ 16 → at + n ≤ 8 * length s
     → a ≡ getD s (at / 8) 0 → b ≡ getD s (at / 8 + 1) 0 → c ≡ getD s (at / 8 + 2) 0 → a < 256 → b < 256 → c < 256
-    → FieldRead s at n ((a * 65536 + b * 256 + c) / 2 ^ (24 - at % 8 - n) % (1 * 2 ^ n % 2 ^ 64))
+    → FieldGives s at n ((a * 65536 + b * 256 + c) / 2 ^ (24 - at % 8 - n) % (1 * 2 ^ n % 2 ^ 64))
 field-read s at n {a} {b} {c} h fits ea eb ec ha hb hc =
     let i : ℕ = at / 8 in
     let o : ℕ = at % 8 in

@@ -8,7 +8,7 @@ use lib.Seq.{length-take-le, drop-drop}
 use Rattle.bits.specs.Bits.{bitsIn, bitsOf}
 use Rattle.bits.specs.FieldLaws.{length-bitsIn}
 use Rattle.bits.specs.ByteLaws.{length-bitsOf}
-use Rattle.bits.specs.Ink.{ink, Ready, Room, Wrote}
+use Rattle.bits.specs.Ink.{ink, PenReady, PutAsks, PutGives}
 use Rattle.bits.specs.declared.pen.Pen.{Pen}
 
 -- a pen that has written nothing
@@ -19,7 +19,7 @@ pub ink-start : (out : List ℕ) → ink start out ≡ []
 unfolding ink bitsOf bitsIn
 ink-start out = refl
 
-pub ready-start : (out : List ℕ) → Ready start out
+pub ready-start : (out : List ℕ) → PenReady start out
 ready-start out = record { few = omega arith; small = omega arith; within = omega arith }
 
 pub length-ink : (pen : Pen) (out : List ℕ) → pen .at ≤ length out → length (ink pen out) ≡ 8 * pen .at + pen .held
@@ -39,7 +39,7 @@ rest-later a b x y h e =
     ∙ ap (λ (k : ℕ). drop k y) n
 
 -- one call after the other
-pub wrote-both : (p : Pen) (x a : List ℕ) (q : Pen) (y b : List ℕ) (r : Pen) (z : List ℕ) → Wrote p x a q y → Wrote q y b r z → Wrote p x (a ++ b) r z
+pub wrote-both : (p : Pen) (x a : List ℕ) (q : Pen) (y b : List ℕ) (r : Pen) (z : List ℕ) → PutGives p x a q y → PutGives q y b r z → PutGives p x (a ++ b) r z
 wrote-both p x a q y b r z f g =
     record {
       bits = g .bits ∙ ap (λ (l : List ℕ). l ++ b) (f .bits) ∙ append-assoc (ink p x) a b;
@@ -49,8 +49,8 @@ wrote-both p x a q y b r z f g =
     }
 
 -- room for fewer bits, and what is left of it behind a call
-pub room-less : (p : Pen) (m n : ℕ) (x : List ℕ) → m ≤ n → Room p n x → Room p m x
+pub room-less : (p : Pen) (m n : ℕ) (x : List ℕ) → m ≤ n → PutAsks p n x → PutAsks p m x
 room-less p m n x h r = record { ready = r .ready; fits = omega (arith, r .fits) }
 
-pub room-after : (p : Pen) (x bs : List ℕ) (q : Pen) (y : List ℕ) (m : ℕ) → Room p (length bs + m) x → Wrote p x bs q y → length y ≡ length x → Room q m y
+pub room-after : (p : Pen) (x bs : List ℕ) (q : Pen) (y : List ℕ) (m : ℕ) → PutAsks p (length bs + m) x → PutGives p x bs q y → length y ≡ length x → PutAsks q m y
 room-after p x bs q y m r w same = record { ready = w .ready; fits = omega (arith, r .fits, w .size) }

@@ -6,6 +6,6 @@ use lib.ListN.{take, drop}
 use Rattle.bits.specs.Bits.{bitsOf, numOf}
 
 -- r is the field of n bits at bit `at` of s
-pub record FieldRead (s : List ℕ) (at n r : ℕ) : Type 0 where
+pub record FieldGives (s : List ℕ) (at n r : ℕ) : Type 0 where
   pub value : r ≡ numOf (take n (drop at (bitsOf s)))
   pub small : r < 2 ^ n

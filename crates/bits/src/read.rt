@@ -3,7 +3,7 @@ ghost use mathlib.Core.Path.{_≡_};
 ghost use Prim.Native.Nat.{_+_, _*_, _≤_, _<_};
 ghost use lib.ListN.{length, drop, getD};
 ghost use Rattle.bits.specs.Bits.{bitsOf, octets};
-ghost use Rattle.bits.specs.Reads.{FieldRead};
+ghost use Rattle.bits.specs.Reads.{FieldGives};
 
 // The byte at i, and 0 past the end.
 fn byte(s: &[u8], i: usize) -> usize
@@ -18,7 +18,7 @@ fn byte(s: &[u8], i: usize) -> usize
 // The field of n bits that begins at bit `at`: three bytes hold it, wherever in a byte it begins.
 pub fn bits(s: &[u8], at: usize, n: usize) -> usize
     requires { ⌜ (n ≤ 16) × (at + n ≤ 8 * length (now s)) ⌝ }
-    ensures { λ r. ⌜ FieldRead (now (s .entry)) at n r ⌝ }
+    ensures { λ r. ⌜ FieldGives (now (s .entry)) at n r ⌝ }
 {
     let i = at / 8;
     let first = byte(s, i);

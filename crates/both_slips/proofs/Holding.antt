@@ -13,10 +13,10 @@ use Rattle.outcomes.specs.Refusals.{accepted}
 use Rattle.tables.specs.Records.{Holds}
 use Rattle.tables.specs.Tables.{entries, sum, FormedIn}
 use Rattle.sha2.specs.Sha256 as Sha256
-use Rattle.join_rows.specs.Plans.{Two}
+use Rattle.join_rows.specs.Plans.{TwoTables}
 use Rattle.slips.specs.declared.answer.Answer.{Answer}
 use Rattle.slips.specs.declared.open.Opened.{Opened}
-use Rattle.slips.specs.Opening.{Lent, Opens}
+use Rattle.slips.specs.Opening.{OpenAsks, OpenGives}
 use Rattle.slips.specs.SlipTree.{slipTree}
 use Rattle.slips.specs.Holding.{HoldsTree}
 use Rattle.slips.specs.HoldingLaws.{entries-part, holds-tree}
@@ -41,7 +41,7 @@ module _ {u : List ℕ} {m first used : ℕ} {types counts lengths values labels
     (p : BehindAsks u m first used types counts lengths values labels) where
   -- the parts behind the first slip's are room enough
   pub behind-lent :
-      Lent u m (midOf first (length types - first) types) (midOf first (length counts - first) counts)
+      OpenAsks u m (midOf first (length types - first) types) (midOf first (length counts - first) counts)
       (midOf first (length lengths - first) lengths) (midOf used (length values - used) values)
       (midOf (labelBytes * first) (length labels - labelBytes * first) labels)
   behind-lent =
@@ -58,7 +58,7 @@ module _ {u : List ℕ} {m first used : ℕ} {types counts lengths values labels
       }
 
   -- what is opened in the parts is opened behind the rest
-  pub behind-opens : {r : Opened} (ts cs ls vs bs : List ℕ) → Opens u r ts cs ls vs bs
+  pub behind-opens : {r : Opened} (ts cs ls vs bs : List ℕ) → OpenGives u r ts cs ls vs bs
       → length ts ≡ length (midOf first (length types - first) types)
       → length cs ≡ length (midOf first (length counts - first) counts)
       → length ls ≡ length (midOf first (length lengths - first) lengths)
@@ -131,7 +131,7 @@ holds-kept H n ts cs ls vs bs ws zs h v b =
 
 -- the second tree's columns stand behind the first's
 module _ {s u : List ℕ} {a b : Opened} {types counts lengths area values labels : List ℕ} {y : Areas}
-    (h : HoldsTree s (a .rows) types counts lengths area labels) (o : Opens s a types counts lengths area labels)
+    (h : HoldsTree s (a .rows) types counts lengths area labels) (o : OpenGives s a types counts lengths area labels)
     (v : take (a .used) values ≡ take (a .used) area) (k : BehindGives u (a .rows) (a .used) b (areas types counts lengths values labels) y)
     (f : b .answer .number ≡ accepted) where
   second : HoldsTree u (b .rows) (drop (a .rows) (y .types)) (drop (a .rows) (y .counts)) (drop (a .rows) (y .lengths)) (drop (a .used) (y .values))
@@ -154,7 +154,7 @@ module _ {s u : List ℕ} {a b : Opened} {types counts lengths area values label
       (front-part (labelBytes * a .rows) (y .labels) labels (k .labels-kept) (labelBytes * length (take (a .rows) types)) (omega (arith, few)))
 
   two-held :
-      Two Sha256.label (slipTree s) (slipTree u) (a .rows) (take (a .rows + b .rows) (y .types)) (take (a .rows + b .rows) (y .counts))
+      TwoTables Sha256.label (slipTree s) (slipTree u) (a .rows) (take (a .rows + b .rows) (y .types)) (take (a .rows + b .rows) (y .counts))
       (take (a .rows + b .rows) (y .lengths)) (y .values) (y .labels)
   two-held =
       record {

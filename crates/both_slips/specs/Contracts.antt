@@ -9,10 +9,10 @@ use Rattle.trees.specs.Join.{Alike}
 use Rattle.outcomes.specs.Refusals.{accepted}
 use Rattle.sha2.specs.Sha256 as Sha256
 use Rattle.titles.specs.Compose.{composedText}
-use Rattle.join_rows.specs.Plans.{Two}
+use Rattle.join_rows.specs.Plans.{TwoTables}
 use Rattle.slips.specs.declared.open.Opened.{Opened}
 use Rattle.slips.specs.Check.{headerOf, countOf, bodyOf}
-use Rattle.slips.specs.Opening.{Counted, Opens}
+use Rattle.slips.specs.Opening.{Counted, OpenGives}
 use Rattle.slips.specs.SlipTree.{slipTree}
 use Rattle.slips.specs.HoldingLaws.{Rooms}
 use Rattle.both_slips.specs.declared.Pair.{Pair}
@@ -47,7 +47,7 @@ pub record BehindAsks (u : List ℕ) (m first used : ℕ) (types counts lengths 
 -- the slip is opened behind the rows and value bytes, which are as they were
 pub record BehindGives (u : List ℕ) (first used : ℕ) (r : Opened) (x y : Areas) : Type 0 where
   pub opens :
-      Opens u r (drop first (y .types)) (drop first (y .counts)) (drop first (y .lengths)) (drop used (y .values))
+      OpenGives u r (drop first (y .types)) (drop first (y .counts)) (drop first (y .lengths)) (drop used (y .values))
       (drop (labelBytes * first) (y .labels))
   pub rooms : Rooms (countOf u) (drop first (y .types)) (drop first (y .counts)) (drop first (y .lengths)) (drop (labelBytes * first) (y .labels))
   pub types-kept : take first (y .types) ≡ take first (x .types)
@@ -74,7 +74,7 @@ pub record Tables (s u : List ℕ) (r : Pair) (types counts lengths values label
   pub alike : Alike Sha256.label (slipTree s) (slipTree u)
   pub labelled : label Sha256.label (slipTree s) ≡ r .answer .label
   pub two :
-      Two Sha256.label (slipTree s) (slipTree u) (r .first) (take (r .rows) types) (take (r .rows) counts) (take (r .rows) lengths) values
+      TwoTables Sha256.label (slipTree s) (slipTree u) (r .first) (take (r .rows) types) (take (r .rows) counts) (take (r .rows) lengths) values
       labels
 
 -- the answer to two slips whose headers are taken; where it refuses neither, what the areas hold

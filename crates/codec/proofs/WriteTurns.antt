@@ -9,7 +9,7 @@ use lib.Seq.{drop-drop, length-take-le}
 use Rattle.bits.specs.Bits.{bitsIn, packed}
 use Rattle.bits.specs.FieldLaws.{length-bitsIn}
 use Rattle.bits.specs.ByteLaws.{length-packed}
-use Rattle.bits.specs.Ink.{ink, Ready, Room, Wrote, Finished}
+use Rattle.bits.specs.Ink.{ink, PenReady, PutAsks, PutGives, FinishGives}
 use Rattle.bits.specs.InkLaws.{start, ink-start, ready-start, length-ink, rest-later, wrote-both, room-less, room-after}
 use Rattle.bits.specs.declared.pen.Pen.{Pen}
 use Rattle.trees.specs.Rows.{Entry}
@@ -29,7 +29,7 @@ head n = bitsIn editionBits edition ++ bitsIn countBits n
 -- from p and x on, the rows before i are written, and the values before `used`
 pub record Penned (p : Pen) (x T C L W : List ℕ) (q : Pen) (y : List ℕ) (used i : ℕ) : Type 0 where
   pub done : List ℕ
-  pub wrote : Wrote p x done q y
+  pub wrote : PutGives p x done q y
   pub left : done ++ allBits (entries (drop i T) (drop i C) (drop i L) (drop used W)) ≡ allBits (entries T C L W)
   pub filled : used + sum (drop i L) ≤ length W
   pub form : firstBad i (drop i T) (drop i C) (drop i L) ≡ length T
@@ -42,7 +42,7 @@ pub record Cells (T C L : List ℕ) (i t c l : ℕ) : Type 0 where
   pub count : c ≡ getD C i 0
   pub size : l ≡ getD L i 0
 
-pub begun : (T C L W : List ℕ) (p : Pen) (x : List ℕ) → Ready p x → FormedIn T C L W → Penned p x T C L W p x 0 0
+pub begun : (T C L W : List ℕ) (p : Pen) (x : List ℕ) → PenReady p x → FormedIn T C L W → Penned p x T C L W p x 0 0
 begun T C L W p x r f =
     record {
       done = [];
@@ -97,17 +97,17 @@ module _ {T C L W : List ℕ} {p : Pen} {x : List ℕ} {q : Pen} {y : List ℕ} 
     pub row-form : rowFits t c (length value) ≡ true
     row-form = (λ j. rowFits (cells .type j) (cells .count j) ((value-long ∙ cells .size) j)) ∙ form .0
 
-    pub row-room : Room p (length (allBits (entries T C L W))) x → length y ≡ length x → Room q (length (entryBits (entryOf t c value))) y
+    pub row-room : PutAsks p (length (allBits (entries T C L W))) x → length y ≡ length x → PutAsks q (length (entryBits (entryOf t c value))) y
     row-room r same =
         let e : List ℕ = entryBits (entryOf t c value) in
         let b : List ℕ = allBits behind in
         let n : length (allBits (entries T C L W)) ≡ length (g .done) + (length e + length b) =
         ap length (sym split) ∙ length-append (g .done) (e ++ b) ∙ ap (λ (k : ℕ). length (g .done) + k) (length-append e b) in
         room-less q (length e) (length e + length b) y (omega arith)
-        (room-after p x (g .done) q y (length e + length b) (subst (λ (k : ℕ). Room p k x) n r) (g .wrote) same)
+        (room-after p x (g .done) q y (length e + length b) (subst (λ (k : ℕ). PutAsks p k x) n r) (g .wrote) same)
 
     -- a turn
-    pub turned : (q′ : Pen) (y′ : List ℕ) → Wrote q y (entryBits (entryOf t c value)) q′ y′ → Penned p x T C L W q′ y′ (used + l) (i + 1)
+    pub turned : (q′ : Pen) (y′ : List ℕ) → PutGives q y (entryBits (entryOf t c value)) q′ y′ → Penned p x T C L W q′ y′ (used + l) (i + 1)
     turned q′ y′ w =
         let e : List ℕ = entryBits (entryOf t c value) in
         record {
@@ -120,7 +120,7 @@ module _ {T C L W : List ℕ} {p : Pen} {x : List ℕ} {q : Pen} {y : List ℕ} 
         }
 
   -- the end
-  pub closed : length T ≤ i → Wrote p x (allBits (entries T C L W)) q y
+  pub closed : length T ≤ i → PutGives p x (allBits (entries T C L W)) q y
   unfolding allBits
   closed h =
       let none : drop i T ≡ [] = drop-of-length-le T {i = i} h in
@@ -128,10 +128,10 @@ module _ {T C L W : List ℕ} {p : Pen} {x : List ℕ} {q : Pen} {y : List ℕ} 
       sym (append-nil (g .done))
       ∙ ap (λ (l : List ℕ). g .done ++ allBits (entries l (drop i C) (drop i L) (drop used W))) (sym none)
       ∙ g .left in
-      subst (λ (l : List ℕ). Wrote p x l q y) e (g .wrote)
+      subst (λ (l : List ℕ). PutGives p x l q y) e (g .wrote)
 
 module _ (T C L W out : List ℕ) (a : WriteAsks T C L W out) where
-  pub all-room : Room start (length (head (length T)) + length (allBits (entries T C L W))) out
+  pub all-room : PutAsks start (length (head (length T)) + length (allBits (entries T C L W))) out
   all-room =
       let es : List Entry = entries T C L W in
       let n : ℕ = length T in
@@ -149,23 +149,23 @@ module _ (T C L W out : List ℕ) (a : WriteAsks T C L W out) where
             );
       }
 
-  pub head-room : Room start headBits out
+  pub head-room : PutAsks start headBits out
   head-room =
       let n : ℕ = length T in
       room-less start headBits (length (head n) + length (allBits (entries T C L W))) out
       (omega (arith, length-append (bitsIn editionBits edition) (bitsIn countBits n), length-bitsIn editionBits edition, length-bitsIn countBits n))
       all-room
 
-  pub rows-room : (p : Pen) (x : List ℕ) → Wrote start out (head (length T)) p x → length x ≡ length out → Room p (length (allBits (entries T C L W))) x
+  pub rows-room : (p : Pen) (x : List ℕ) → PutGives start out (head (length T)) p x → length x ≡ length out → PutAsks p (length (allBits (entries T C L W))) x
   rows-room p x w same = room-after start out (head (length T)) p x (length (allBits (entries T C L W))) all-room w same
 
-  pub written : (p : Pen) (x : List ℕ) (q : Pen) (y : List ℕ) (r : ℕ) (z : List ℕ) → Wrote start out (head (length T)) p x
-      → Wrote p x (allBits (entries T C L W)) q y → Finished q y r z → WriteGives T C L W out r z
+  pub written : (p : Pen) (x : List ℕ) (q : Pen) (y : List ℕ) (r : ℕ) (z : List ℕ) → PutGives start out (head (length T)) p x
+      → PutGives p x (allBits (entries T C L W)) q y → FinishGives q y r z → WriteGives T C L W out r z
   unfolding slipOf slipBits
   written p x q y r z v w f =
       let es : List Entry = entries T C L W in
       let n : ℕ = length T in
-      let both : Wrote start out (head n ++ allBits es) q y = wrote-both start out (head n) p x (allBits es) q y v w in
+      let both : PutGives start out (head n ++ allBits es) q y = wrote-both start out (head n) p x (allBits es) q y v w in
       let rows : length es ≡ n = length-entries T C L W (a .form .columns .counts-long) (a .form .columns .lengths-long) in
       let all : ink q y ≡ slipBits es =
       both .bits

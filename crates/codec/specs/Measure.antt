@@ -25,5 +25,5 @@ unfoldable pub tableBits : List ℕ → List ℕ → List ℕ → ℕ
 tableBits ts cs ls = editionBits + countBits + rowsBits ts cs ls
 
 -- the bytes of the table's slip, whatever the values
-abbrev pub Sized : List ℕ → List ℕ → List ℕ → ℕ → Type 0
-Sized ts cs ls r = (vs : List ℕ) → sum ls ≤ length vs → r ≡ length (slipOf (entries ts cs ls vs))
+abbrev pub SizeGives : List ℕ → List ℕ → List ℕ → ℕ → Type 0
+SizeGives ts cs ls r = (vs : List ℕ) → sum ls ≤ length vs → r ≡ length (slipOf (entries ts cs ls vs))

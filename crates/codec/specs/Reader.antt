@@ -37,10 +37,10 @@ pub record FillAsks (s : List ℕ) (n : ℕ) (types counts lengths values : List
   pub head : headBits ≤ 8 * length s
   pub long : length s ≤ maxBytes
   pub few : n ≤ maxNodes
-  pub typesRoom : n ≤ length types
-  pub countsRoom : n ≤ length counts
-  pub lengthsRoom : n ≤ length lengths
-  pub valuesRoom : length s ≤ length values
+  pub types-room : n ≤ length types
+  pub counts-room : n ≤ length counts
+  pub lengths-room : n ≤ length lengths
+  pub values-room : length s ≤ length values
 
 -- the table holds the rows x that were read, of which `at` is the bit behind the last
 pub record FillGives (s : List ℕ) (n : ℕ) (x : Reading) (r : Filled) (types counts lengths values : List ℕ) : Type 0 where

@@ -56,8 +56,8 @@ bitsOf-slip es = bitsOf-packed (slipBits es) (below-slipBits es)
 
 pub record Reads (s : List ℕ) (n : ℕ) (es : List Entry) : Type 0 where
   pub head : headBits ≤ length (bitsOf s)
-  pub editionIs : numOf (take editionBits (bitsOf s)) ≡ edition
-  pub countIs : numOf (take countBits (drop editionBits (bitsOf s))) ≡ n
+  pub edition-is : numOf (take editionBits (bitsOf s)) ≡ edition
+  pub count-is : numOf (take countBits (drop editionBits (bitsOf s))) ≡ n
   pub pad : ℕ
   pub few : pad < 8
   pub rows : readAll n (drop headBits (bitsOf s)) ≡ record { rows = es; rest = replicate pad 0; whole = true }
@@ -87,8 +87,8 @@ slip-reads es p few =
             length-bitsIn editionBits edition,
             length-bitsIn countBits n,
           ));
-      editionIs = ap (λ (l : List ℕ). numOf (take editionBits l)) b ∙ field-value editionBits edition c (omega arith);
-      countIs = ap (λ (l : List ℕ). numOf (take countBits l)) d ∙ field-value countBits n (allBits es ++ z) (omega arith);
+      edition-is = ap (λ (l : List ℕ). numOf (take editionBits l)) b ∙ field-value editionBits edition c (omega arith);
+      count-is = ap (λ (l : List ℕ). numOf (take countBits l)) d ∙ field-value countBits n (allBits es ++ z) (omega arith);
       pad = k;
       few = padding-few (length (slipBits es));
       rows = ap (readAll n) r ∙ read-all-written es z p;
@@ -111,10 +111,10 @@ reads-slip s n es bytes r =
     drop-drop countBits editionBits b ∙ sym (was .bits) ∙ ap₂ (λ (l : List Entry) (m : List ℕ). allBits l ++ m) rows rest in
     let c : d ≡ bitsIn countBits (length es) ++ (allBits es ++ z) =
     sym (field-back countBits d (below-drop 2 editionBits b below) (omega (arith, length-drop editionBits b, r .head)))
-    ∙ ap₂ (λ (m : ℕ) (l : List ℕ). bitsIn countBits m ++ l) (r .countIs ∙ sym count) tail in
+    ∙ ap₂ (λ (m : ℕ) (l : List ℕ). bitsIn countBits m ++ l) (r .count-is ∙ sym count) tail in
     let all : b ≡ slipBits es ++ z =
     sym (field-back editionBits b below (omega (arith, r .head)))
-    ∙ ap₂ (λ (m : ℕ) (l : List ℕ). bitsIn editionBits m ++ l) (r .editionIs) c
+    ∙ ap₂ (λ (m : ℕ) (l : List ℕ). bitsIn editionBits m ++ l) (r .edition-is) c
     ∙ ap (λ (l : List ℕ). bitsIn editionBits edition ++ l) (sym (append-assoc (bitsIn countBits (length es)) (allBits es) z))
     ∙ sym (append-assoc (bitsIn editionBits edition) (bitsIn countBits (length es) ++ allBits es) z) in
     (packed-is s (slipBits es) (r .pad) bytes (r .few) all, subst AllProper rows (was .proper), count)
@@ -124,6 +124,6 @@ pub slip-unique : (es fs : List Entry) → AllProper es → AllProper fs → len
 slip-unique es fs p q h g e =
     let a : Reads (slipOf es) (length es) es = slip-reads es p h in
     let b : Reads (slipOf es) (length fs) fs = subst (λ (s : List ℕ). Reads s (length fs) fs) (sym e) (slip-reads fs q g) in
-    let n : length es ≡ length fs = sym (a .countIs) ∙ b .countIs in
+    let n : length es ≡ length fs = sym (a .count-is) ∙ b .count-is in
     ap (λ (y : Reading). y .rows)
     (sym (a .rows) ∙ ap (λ (k : ℕ). readAll k (drop headBits (bitsOf (slipOf es)))) n ∙ b .rows)

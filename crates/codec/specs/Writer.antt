@@ -7,7 +7,7 @@ use Rattle.tables.specs.Tables.{FormedIn, entries}
 use Rattle.codec.specs.Writing.{slipOf}
 use Rattle.codec.specs.Measure.{tableBits}
 
-pub record Measured (types counts lengths : List ℕ) (r : ℕ) : Type 0 where
+pub record MeasureGives (types counts lengths : List ℕ) (r : ℕ) : Type 0 where
   pub bits : r ≡ tableBits types counts lengths
   pub small : r < 2 ^ 30
 

@@ -1,9 +1,9 @@
 // The size of a table's slip.
 ghost use mathlib.Core.Path.{_≡_};
 ghost use Prim.Native.Nat.{_<_, _≤_};
-ghost use Rattle.codec.specs.Measure.{rowBits, Sized};
+ghost use Rattle.codec.specs.Measure.{rowBits, SizeGives};
 ghost use Rattle.tables.specs.Tables.{Columns};
-ghost use Rattle.codec.specs.Writer.{Measured};
+ghost use Rattle.codec.specs.Writer.{MeasureGives};
 use tables::form::cell;
 use tables::limits::Slip;
 
@@ -26,7 +26,7 @@ fn row_bits(kind: usize, count: usize, length: usize) -> usize
 // The bits of a table's slip, its header among them and its padding not.
 fn measure(types: &[u16], counts: &[u16], lengths: &[u16]) -> usize
     requires { ⌜ Columns (now types) (now counts) (now lengths) ⌝ }
-    ensures { λ r. ⌜ Measured (now (types .entry)) (now (counts .entry)) (now (lengths .entry)) r ⌝ }
+    ensures { λ r. ⌜ MeasureGives (now (types .entry)) (now (counts .entry)) (now (lengths .entry)) r ⌝ }
 {
     let mut total = Slip::EDITION_BITS + Slip::COUNT_BITS;
     let mut i = 0;
@@ -43,7 +43,7 @@ fn measure(types: &[u16], counts: &[u16], lengths: &[u16]) -> usize
 // The bytes of a table's slip: its bits, and zeros to the end of the last byte.
 pub fn size(types: &[u16], counts: &[u16], lengths: &[u16]) -> usize
     requires { ⌜ Columns (now types) (now counts) (now lengths) ⌝ }
-    ensures { λ r. ⌜ Sized (now (types .entry)) (now (counts .entry)) (now (lengths .entry)) r ⌝ }
+    ensures { λ r. ⌜ SizeGives (now (types .entry)) (now (counts .entry)) (now (lengths .entry)) r ⌝ }
 {
     (measure(types, counts, lengths) + 7) / 8
 }

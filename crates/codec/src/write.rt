@@ -5,7 +5,7 @@ ghost use mathlib.Core.List.{_++_};
 ghost use Prim.Native.Nat.{_≤_};
 ghost use lib.ListN.{length};
 ghost use Rattle.bits.specs.Bits.{bitsIn};
-ghost use Rattle.bits.specs.Ink.{Room, Wrote};
+ghost use Rattle.bits.specs.Ink.{PutAsks, PutGives};
 ghost use Rattle.bits.specs.InkLaws.{start};
 ghost use Rattle.trees.specs.Rules.{maxNodes};
 ghost use Rattle.tables.specs.Limits.{edition, editionBits, countBits};
@@ -19,8 +19,8 @@ use tables::limits::Slip;
 
 // "Edition, 6 bits, equal to 1. Node count, 10 bits"
 fn write_head(n: usize, out: &mut [u8]) -> Pen
-    requires { ⌜ (n ≤ maxNodes) × Room start headBits (now out) ⌝ }
-    ensures { λ r. ⌜ Wrote start (now (out .entry)) (bitsIn editionBits edition ++ bitsIn countBits n) r (now (out .exit)) ⌝ }
+    requires { ⌜ (n ≤ maxNodes) × PutAsks start headBits (now out) ⌝ }
+    ensures { λ r. ⌜ PutGives start (now (out .entry)) (bitsIn editionBits edition ++ bitsIn countBits n) r (now (out .exit)) ⌝ }
 {
     let fresh = Pen {
         acc: 0,
@@ -33,8 +33,8 @@ fn write_head(n: usize, out: &mut [u8]) -> Pen
 
 // The entry of one row: its first bit goes with the field behind it.
 fn write_row(pen: Pen, kind: usize, count: usize, value: &[u8], out: &mut [u8]) -> Pen
-    requires { ⌜ (rowFits kind count (length (now value)) ≡ true) × Room pen (length (entryBits (entryOf kind count (now value)))) (now out) ⌝ }
-    ensures { λ r. ⌜ Wrote pen (now (out .entry)) (entryBits (entryOf kind count (now (value .entry)))) r (now (out .exit)) ⌝ }
+    requires { ⌜ (rowFits kind count (length (now value)) ≡ true) × PutAsks pen (length (entryBits (entryOf kind count (now value)))) (now out) ⌝ }
+    ensures { λ r. ⌜ PutGives pen (now (out .entry)) (entryBits (entryOf kind count (now (value .entry)))) r (now (out .exit)) ⌝ }
 {
     if 0 < count {
         let lead = 1 << Slip::CHILD_BITS;

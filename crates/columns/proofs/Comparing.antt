@@ -14,7 +14,7 @@ use Rattle.lists.specs.ListsLaws.{same-true}
 use Rattle.lists.specs.TestsLaws.{or-cases}
 use Rattle.trees.specs.Nodes.{Head}
 use Rattle.trees.specs.Rules.{labelBytes}
-use Rattle.columns.specs.Columns.{textAt, headsBack, sameHead, agree, noneLeft, Labelled, Ready}
+use Rattle.columns.specs.Columns.{textAt, headsBack, sameHead, headsAgree, noneLeft, LabelAsks, Walkable}
 
 pub same-lengths : (a b : List ℕ) → (length a ≡ length b → ⊥) → same a b ≡ false
 same-lengths a b q = go (same a b) refl
@@ -37,29 +37,29 @@ pub same-ends : (a b : List ℕ) (i : ℕ) → length a ≤ i → length b ≤ i
 same-ends a b i h k = ap₂ same (drop-of-length-le a h) (drop-of-length-le b k)
 
 -- where a side has no head left, both agree
-agree-left : (h : ℕ → Head) (s : List ℕ) (k l e f : ℕ) → e ≡ 0 → agree (headsBack h s k e) (headsBack h s l f) ≡ true
-unfolding agree headsBack
+agree-left : (h : ℕ → Head) (s : List ℕ) (k l e f : ℕ) → e ≡ 0 → headsAgree (headsBack h s k e) (headsBack h s l f) ≡ true
+unfolding headsAgree headsBack
 agree-left h s zero l e f q = refl
 agree-left h s (suc k) l zero f q = refl
 agree-left h s (suc k) l (suc e) f q = absurd (omega arith)
 
-agree-nil : (xs : List Head) → agree xs [] ≡ true
-unfolding agree
+agree-nil : (xs : List Head) → headsAgree xs [] ≡ true
+unfolding headsAgree
 agree-nil [] = refl
 agree-nil (x ∷ xs) = refl
 
-agree-right : (h : ℕ → Head) (s : List ℕ) (k l e f : ℕ) → f ≡ 0 → agree (headsBack h s k e) (headsBack h s l f) ≡ true
+agree-right : (h : ℕ → Head) (s : List ℕ) (k l e f : ℕ) → f ≡ 0 → headsAgree (headsBack h s k e) (headsBack h s l f) ≡ true
 unfolding headsBack
 agree-right h s k zero e f q = agree-nil (headsBack h s k e)
 agree-right h s k (suc l) e zero q = agree-nil (headsBack h s k e)
 agree-right h s k (suc l) e (suc f) q = absurd (omega arith)
 
-agree-none : (h : ℕ → Head) (s : List ℕ) (k e f : ℕ) → k ≡ 0 → agree (headsBack h s k e) (headsBack h s k f) ≡ true
-unfolding agree headsBack
+agree-none : (h : ℕ → Head) (s : List ℕ) (k e f : ℕ) → k ≡ 0 → headsAgree (headsBack h s k e) (headsBack h s k f) ≡ true
+unfolding headsAgree headsBack
 agree-none h s zero e f q = refl
 agree-none h s (suc k) e f q = absurd (omega arith)
 
-pub agree-over : (h : ℕ → Head) (s : List ℕ) (k e f : ℕ) → noneLeft k e f ≡ true → agree (headsBack h s k e) (headsBack h s k f) ≡ true
+pub agree-over : (h : ℕ → Head) (s : List ℕ) (k e f : ℕ) → noneLeft k e f ≡ true → headsAgree (headsBack h s k e) (headsBack h s k f) ≡ true
 agree-over h s k e f q =
     or-cases (eqb k 0) (eqb e 0 || eqb f 0) q
     (λ p. agree-none h s k e f (eqb-true k 0 p))
@@ -67,9 +67,9 @@ agree-over h s k e f q =
 
 -- one head more on each side
 pub agree-step : (h : ℕ → Head) (s : List ℕ) (k e f : ℕ) → (k ≡ 0 → ⊥) → (e ≡ 0 → ⊥) → (f ≡ 0 → ⊥)
-    → agree (headsBack h s k e) (headsBack h s k f)
-    ≡ (sameHead (h (e - 1)) (h (f - 1)) && agree (headsBack h s (k - 1) (getD s (e - 1) 0)) (headsBack h s (k - 1) (getD s (f - 1) 0)))
-unfolding agree headsBack
+    → headsAgree (headsBack h s k e) (headsBack h s k f)
+    ≡ (sameHead (h (e - 1)) (h (f - 1)) && headsAgree (headsBack h s (k - 1) (getD s (e - 1) 0)) (headsBack h s (k - 1) (getD s (f - 1) 0)))
+unfolding headsAgree headsBack
 agree-step h s zero e f p q r = absurd (p refl)
 agree-step h s (suc k) zero f p q r = absurd (q refl)
 agree-step h s (suc k) (suc e) zero p q r = absurd (r refl)
@@ -90,7 +90,7 @@ module _ (counts lengths values labels offsets : List ℕ) (x : ℕ) where
       ∙ rw (ne-eqb (getD counts x 0) 0 e)
 
 -- every row of columns that can be walked has its label
-pub ready-labelled : {types counts lengths values labels starts offsets : List ℕ} → Ready types counts lengths values labels starts offsets
-    → (x : ℕ) → x < length types → Labelled counts lengths values labels offsets x
+pub ready-labelled : {types counts lengths values labels starts offsets : List ℕ} → Walkable types counts lengths values labels starts offsets
+    → (x : ℕ) → x < length types → LabelAsks counts lengths values labels offsets x
 ready-labelled r x h =
     record { has-count = omega arith; has-length = omega arith; has-offset = omega arith; inside = r .inside x h; inside-labels = omega arith }

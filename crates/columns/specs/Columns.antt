@@ -40,10 +40,10 @@ abbrev pub sameHead : Head → Head → Bool
 sameHead h g = eqb (h .kind) (g .kind) && same (h .text) (g .text)
 
 -- two lists of heads are equal as far as both go
-unfoldable pub agree : List Head → List Head → Bool
-agree [] ys = true
-agree (x ∷ xs) [] = true
-agree (x ∷ xs) (y ∷ ys) = sameHead x y && agree xs ys
+unfoldable pub headsAgree : List Head → List Head → Bool
+headsAgree [] ys = true
+headsAgree (x ∷ xs) [] = true
+headsAgree (x ∷ xs) (y ∷ ys) = sameHead x y && headsAgree xs ys
 
 -- no child is left, or no row before it
 abbrev pub noneLeft : ℕ → ℕ → ℕ → Bool
@@ -55,14 +55,14 @@ pub record Started (counts starts : List ℕ) (n : ℕ) : Type 0 where
   pub are : (x : ℕ) → x < n → getD starts x 0 ≡ back starts (getD counts x 0) x
 
 -- each row's subtree starts where its children do, and its part of the area after those of the rows before it
-pub record Surveyed (counts lengths starts offsets : List ℕ) : Type 0 where
+pub record SurveyGives (counts lengths starts offsets : List ℕ) : Type 0 where
   pub starts-long : length starts ≡ length counts
   pub offsets-long : length offsets ≡ length counts
   pub started : Started counts starts (length counts)
   pub offsets-are : (x : ℕ) → x < length counts → getD offsets x 0 ≡ sum (take x lengths)
 
 -- row x has its label inside its area
-pub record Labelled (counts lengths values labels offsets : List ℕ) (x : ℕ) : Type 0 where
+pub record LabelAsks (counts lengths values labels offsets : List ℕ) (x : ℕ) : Type 0 where
   pub has-count : x < length counts
   pub has-length : x < length lengths
   pub has-offset : x < length offsets
@@ -70,7 +70,7 @@ pub record Labelled (counts lengths values labels offsets : List ℕ) (x : ℕ) 
   pub inside-labels : labelBytes * x + labelBytes ≤ length labels
 
 -- columns that can be walked: every row has a cell in each, and its label lies inside its area
-pub record Ready (types counts lengths values labels starts offsets : List ℕ) : Type 0 where
+pub record Walkable (types counts lengths values labels starts offsets : List ℕ) : Type 0 where
   pub counts-long : length counts ≡ length types
   pub lengths-long : length lengths ≡ length types
   pub starts-long : length starts ≡ length types

@@ -27,7 +27,7 @@ pub record Gatherable (plan types counts lengths values offsets : List ℕ) : Ty
   pub inside : (x : ℕ) → x < length types → getD offsets x 0 + getD lengths x 0 ≤ length values
 
 -- and room for what it names
-pub record Gathering (plan types counts lengths values offsets outTypes outCounts outLengths outValues : List ℕ) : Type 0 where
+pub record GatherAsks (plan types counts lengths values offsets outTypes outCounts outLengths outValues : List ℕ) : Type 0 where
   pub plan-is : Gatherable plan types counts lengths values offsets
   pub types-room : length plan ≤ length outTypes
   pub counts-room : length plan ≤ length outCounts
@@ -39,7 +39,7 @@ abbrev pub valuesOf : List ℕ → List ℕ → List ℕ → List ℕ → List �
 valuesOf plan lengths values offsets = concat (map (valueAt lengths values offsets) plan)
 
 -- the columns hold the rows named, in order, and their values end to end
-pub record Gathers (plan types counts lengths values offsets outTypes outCounts outLengths outValues : List ℕ) (r : Gathered) : Type 0 where
+pub record GatherGives (plan types counts lengths values offsets outTypes outCounts outLengths outValues : List ℕ) (r : Gathered) : Type 0 where
   pub rows-are : r .rows ≡ length plan
   pub types-are : take (r .rows) outTypes ≡ map (cellOf types) plan
   pub counts-are : take (r .rows) outCounts ≡ map (cellOf counts) plan

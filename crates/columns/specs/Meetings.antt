@@ -7,7 +7,7 @@ use lib.ListN.{getD}
 use Rattle.trees.specs.Nodes.{Head}
 use Rattle.columns.specs.declared.meet.Meeting.{Meeting}
 use Rattle.columns.specs.declared.meet.Meeting.the-variants.{Clash, Take, Both}
-use Rattle.columns.specs.Columns.{headsBack, agree}
+use Rattle.columns.specs.Columns.{headsBack, headsAgree}
 
 -- at a leaf the other's subtree is taken, and the first's leaf where both are leaves;
 -- "a clash is a shared place, internal in both, where the prelabels differ"
@@ -16,5 +16,5 @@ meetingAt head counts starts i j =
     cond (eqb (getD counts j 0) 0) (Take i)
     (cond (eqb (getD counts i 0) 0) (Take j)
     (cond (eqb (getD counts i 0) (getD counts j 0))
-    (cond (agree (headsBack head starts (getD counts i 0) i) (headsBack head starts (getD counts i 0) j)) Both Clash)
+    (cond (headsAgree (headsBack head starts (getD counts i 0) i) (headsBack head starts (getD counts i 0) j)) Both Clash)
     Clash))

@@ -7,7 +7,7 @@ ghost use lib.ListN.{length, take, getD};
 ghost use Rattle.tables.specs.Tables.{sum};
 ghost use Rattle.columns.specs.Columns.{valueAt};
 ghost use Rattle.lists.specs.Lists.{concat};
-ghost use Rattle.columns.specs.Gathers.{cellOf, InRange, Gathering, Gathers};
+ghost use Rattle.columns.specs.Gathers.{cellOf, InRange, GatherAsks, GatherGives};
 
 // How many rows and value bytes were gathered.
 pub struct Gathered {
@@ -66,8 +66,8 @@ pub fn gather(
     out_lengths: &mut [u16],
     out_values: &mut [u8],
 ) -> Gathered
-    requires { ⌜ Gathering (now plan) (now types) (now counts) (now lengths) (now values) (now offsets) (now «out_types») (now «out_counts») (now «out_lengths») (now «out_values») ⌝ }
-    ensures { λ r. ⌜ Gathers (now (plan .entry)) (now (types .entry)) (now (counts .entry)) (now (lengths .entry)) (now (values .entry)) (now (offsets .entry)) (now («out_types» .exit)) (now («out_counts» .exit)) (now («out_lengths» .exit)) (now («out_values» .exit)) r ⌝ }
+    requires { ⌜ GatherAsks (now plan) (now types) (now counts) (now lengths) (now values) (now offsets) (now «out_types») (now «out_counts») (now «out_lengths») (now «out_values») ⌝ }
+    ensures { λ r. ⌜ GatherGives (now (plan .entry)) (now (types .entry)) (now (counts .entry)) (now (lengths .entry)) (now (values .entry)) (now (offsets .entry)) (now («out_types» .exit)) (now («out_counts» .exit)) (now («out_lengths» .exit)) (now («out_values» .exit)) r ⌝ }
 {
     copy_cells(plan, types, out_types);
     copy_cells(plan, counts, out_counts);

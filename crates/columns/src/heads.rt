@@ -5,7 +5,7 @@ ghost use mathlib.Core.Path.{_≡_};
 ghost use Prim.Native.Nat.{_≤_, _<_};
 ghost use lib.ListN.{length};
 ghost use Rattle.lists.specs.Lists as Lists;
-ghost use Rattle.columns.specs.Columns.{textAt, headAt, headsBack, sameHead, agree, noneLeft, Labelled, Ready};
+ghost use Rattle.columns.specs.Columns.{textAt, headAt, headsBack, sameHead, headsAgree, noneLeft, LabelAsks, Walkable};
 
 // Whether two texts are equal.
 pub fn same(a: &[u8], b: &[u8]) -> bool
@@ -33,7 +33,7 @@ fn label<'a>(
     offsets: &[usize],
     x: usize,
 ) -> &'a [u8]
-    requires { ⌜ Labelled (now counts) (now lengths) (now values) (now labels) (now offsets) x ⌝ }
+    requires { ⌜ LabelAsks (now counts) (now lengths) (now values) (now labels) (now offsets) x ⌝ }
     ensures { λ r. ⌜ now r ≡ textAt (now (counts .entry)) (now (lengths .entry)) (now (values .entry)) (now (labels .entry)) (now (offsets .entry)) x ⌝ }
 {
     if cell(counts, x) == 0 {
@@ -57,7 +57,7 @@ fn same_head<'a>(
     x: usize,
     y: usize,
 ) -> bool
-    requires { ⌜ (x < length (now types)) × (y < length (now types)) × Labelled (now counts) (now lengths) (now values) (now labels) (now offsets) x × Labelled (now counts) (now lengths) (now values) (now labels) (now offsets) y ⌝ }
+    requires { ⌜ (x < length (now types)) × (y < length (now types)) × LabelAsks (now counts) (now lengths) (now values) (now labels) (now offsets) x × LabelAsks (now counts) (now lengths) (now values) (now labels) (now offsets) y ⌝ }
     ensures { λ r. ⌜ r ≡ sameHead (headAt (now (types .entry)) (now (counts .entry)) (now (lengths .entry)) (now (values .entry)) (now (labels .entry)) (now (offsets .entry)) x) (headAt (now (types .entry)) (now (counts .entry)) (now (lengths .entry)) (now (values .entry)) (now (labels .entry)) (now (offsets .entry)) y) ⌝ }
 {
     if types[x] != types[y] {
@@ -95,8 +95,8 @@ pub(crate) fn same_heads<'a>(
     i: usize,
     j: usize,
 ) -> bool
-    requires { ⌜ Ready (now types) (now counts) (now lengths) (now values) (now labels) (now starts) (now offsets) × (i ≤ length (now types)) × (j ≤ length (now types)) ⌝ }
-    ensures { λ r. ⌜ r ≡ agree (headsBack (headAt (now (types .entry)) (now (counts .entry)) (now (lengths .entry)) (now (values .entry)) (now (labels .entry)) (now (offsets .entry))) (now (starts .entry)) count i) (headsBack (headAt (now (types .entry)) (now (counts .entry)) (now (lengths .entry)) (now (values .entry)) (now (labels .entry)) (now (offsets .entry))) (now (starts .entry)) count j) ⌝ }
+    requires { ⌜ Walkable (now types) (now counts) (now lengths) (now values) (now labels) (now starts) (now offsets) × (i ≤ length (now types)) × (j ≤ length (now types)) ⌝ }
+    ensures { λ r. ⌜ r ≡ headsAgree (headsBack (headAt (now (types .entry)) (now (counts .entry)) (now (lengths .entry)) (now (values .entry)) (now (labels .entry)) (now (offsets .entry))) (now (starts .entry)) count i) (headsBack (headAt (now (types .entry)) (now (counts .entry)) (now (lengths .entry)) (now (values .entry)) (now (labels .entry)) (now (offsets .entry))) (now (starts .entry)) count j) ⌝ }
 {
     let mut k = count;
     let mut e = i;

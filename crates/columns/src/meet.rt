@@ -4,7 +4,7 @@ use tables::form::cell;
 ghost use mathlib.Core.Path.{_≡_};
 ghost use Prim.Native.Nat.{_<_};
 ghost use lib.ListN.{length};
-ghost use Rattle.columns.specs.Columns.{headAt, Ready};
+ghost use Rattle.columns.specs.Columns.{headAt, Walkable};
 ghost use Rattle.columns.specs.Meetings.{meetingAt};
 
 // What two shared nodes call for: a clash, all rows of one of them, or the join of their runs.
@@ -26,7 +26,7 @@ pub fn meet<'a>(
     i: usize,
     j: usize,
 ) -> Meeting
-    requires { ⌜ Ready (now types) (now counts) (now lengths) (now values) (now labels) (now starts) (now offsets) × (i < length (now types)) × (j < length (now types)) ⌝ }
+    requires { ⌜ Walkable (now types) (now counts) (now lengths) (now values) (now labels) (now starts) (now offsets) × (i < length (now types)) × (j < length (now types)) ⌝ }
     ensures { λ r. ⌜ r ≡ meetingAt (headAt (now (types .entry)) (now (counts .entry)) (now (lengths .entry)) (now (values .entry)) (now (labels .entry)) (now (offsets .entry))) (now (counts .entry)) (now (starts .entry)) i j ⌝ }
 {
     let a = cell(counts, i);

@@ -5,7 +5,7 @@ ghost use Prim.Native.Nat.{ℕ, _*_, _≤_, _<_};
 ghost use lib.ListN.{length, take, getD};
 ghost use Rattle.trees.specs.Rules.{maxNodes};
 ghost use Rattle.tables.specs.Tables.{sum};
-ghost use Rattle.columns.specs.Columns.{back, Started, Surveyed};
+ghost use Rattle.columns.specs.Columns.{back, Started, SurveyGives};
 
 // The row that `count` subtrees start at which end before row `end`.
 fn first_row(starts: &[usize], count: usize, end: usize) -> usize
@@ -53,7 +53,7 @@ fn fill_offsets(lengths: &[u16], offsets: &mut [usize])
 // Both columns, for tables end to end.
 pub fn survey(counts: &[u16], lengths: &[u16], starts: &mut [usize], offsets: &mut [usize])
     requires { ⌜ (length (now lengths) ≡ length (now counts)) × (length (now starts) ≡ length (now counts)) × (length (now offsets) ≡ length (now counts)) × (length (now counts) ≤ 2 * maxNodes) ⌝ }
-    ensures { λ _. ⌜ Surveyed (now (counts .entry)) (now (lengths .entry)) (now (starts .exit)) (now (offsets .exit)) ⌝ }
+    ensures { λ _. ⌜ SurveyGives (now (counts .entry)) (now (lengths .entry)) (now (starts .exit)) (now (offsets .exit)) ⌝ }
 {
     fill_starts(counts, starts);
     fill_offsets(lengths, offsets);

@@ -36,7 +36,7 @@ use Rattle.slips.specs.Check.{headerBits, editionOf, countOf, readingOf, paddin
 use Rattle.outcomes.specs.Outcome.{over}
 use Rattle.slips.specs.SlipTree.{slipTree}
 use Rattle.slips.specs.SlipTreeLaws.{check-tree}
-use Rattle.pack.specs.Pack.{rowsOf, badRow, faultTests, faultOf, tabled, sizeTests, judgedTests, judgedAs, answerOf, packOf}
+use Rattle.pack.specs.Pack.{rowsOf, badRow, faultTests, tableFault, tabled, sizeTests, judgedTests, judgedAs, answerOf, packOf}
 use Rattle.handing.specs.Handing.{overAll, handedTests, handedOf}
 use Rattle.unpack.specs.Unpack.{tableOf, unpackOf}
 use Rattle.send.specs.Sent.{sentTests, sent, sentTree}
@@ -434,7 +434,7 @@ module _ (H : List ℕ → List ℕ) (composed : List ℕ → Bool) where
 
   -- the packer
   pack-order : (t : Table) (room : ℕ) → InOrder says (packCases H composed t room) (answerOf H composed t room .number ≡ accepted) (answerOf H composed t room)
-  unfolding answerOf faultOf
+  unfolding answerOf tableFault
   pack-order t room =
       let ts : List ℕ = t .types in
       let fits : Bool = columnsFit (t .types) (t .counts) (t .lengths) in

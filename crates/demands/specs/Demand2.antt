@@ -24,7 +24,7 @@ use Rattle.unicode.specs.Utf8.{encodes, decode}
 use Rattle.unicode.specs.Repertoire.{allPlain, allIn}
 use Rattle.unicode.specs.Nfc.{nfc}
 use Rattle.titles.specs.Compose.{composedText, acceptedWith, composeOf}
-use Rattle.titles.specs.Titles.{title-nfc, accepted-nfc, equal-nfc}
+use Rattle.titles.specs.TitleTheorems.{title-nfc, accepted-nfc, equal-nfc}
 use Rattle.slips.specs.Answers.{taken}
 use Rattle.slips.specs.Check.{countOf, checkOf}
 use Rattle.outcomes.specs.Outcome.{over}
@@ -49,13 +49,13 @@ abbrev pub Slip : List ℕ → Node → Type 0
 Slip s n = SlipOf Sha256.label composedText s n
 
 -- "Root labels are the hash tree of source document 000": an accepted slip is that of one well-formed tree, and its label and blocks are told
-pub record Labelled (s : List ℕ) : Type 0 where
+pub record SlipLabelled (s : List ℕ) : Type 0 where
   pub tree : Node
   pub is : Slip s tree
   pub only : (n : Node) → Slip s n → n ≡ tree
   pub answer : checkOf Sha256.label composedText s ≡ taken (length s) (blocks Sha256.label tree) (label Sha256.label tree)
 
-pub labels : (s : List ℕ) → Below 256 s → checkOf Sha256.label composedText s .number ≡ accepted → Labelled s
+pub labels : (s : List ℕ) → Below 256 s → checkOf Sha256.label composedText s .number ≡ accepted → SlipLabelled s
 labels s bytes e =
     let x = accepted-slip Sha256.label composedText s bytes e in
     record {
@@ -108,12 +108,12 @@ pub nfc-stored : (title out : List ℕ) → composeOf title out .answer .number 
 nfc-stored title out e = accepted-nfc title out e
 
 -- a title of the repertoire, within the limit, whose NFC is composed text is accepted where that has room
-pub nfc-accepted : (title out : List ℕ) → length title ≤ Titles.maxBytes → allIn (decode title) ≡ true → allPlain (nfc (decode title)) ≡ true
+pub nfc-accepted : (title out : List ℕ) → length title ≤ Titles.maxTitle → allIn (decode title) ≡ true → allPlain (nfc (decode title)) ≡ true
     → length (encodes (nfc (decode title))) ≤ length out → composeOf title out ≡ acceptedWith (encodes (nfc (decode title))) out
 nfc-accepted title out under known plain room = title-nfc title out under known plain room
 
 -- so É as one letter and as E and a mark are stored alike
-pub nfc-alike : (x y out : List ℕ) → length x ≤ Titles.maxBytes → length y ≤ Titles.maxBytes → allIn (decode y) ≡ true
+pub nfc-alike : (x y out : List ℕ) → length x ≤ Titles.maxTitle → length y ≤ Titles.maxTitle → allIn (decode y) ≡ true
     → nfc (decode x) ≡ nfc (decode y) → composeOf x out .answer .number ≡ accepted → composeOf y out ≡ composeOf x out
 nfc-alike x y out ux uy known e z = equal-nfc x y out ux uy known e z
 

@@ -13,7 +13,7 @@ use Rattle.tables.specs.Tables.{entries, sum}
 use Rattle.sha2.specs.Sha256 as Sha256
 use Rattle.titles.specs.Compose.{composedText}
 use Rattle.engine.specs.Engine.{tops}
-use Rattle.engine.specs.Judging.{Lent}
+use Rattle.engine.specs.Judging.{JudgeInAsks}
 use Rattle.stack.specs.Areas.{Laid}
 use Rattle.stack.specs.declared.Stack.{Stack}
 use Rattle.engine.proofs.Growing.{whole}
@@ -78,19 +78,19 @@ pub record Turn (types counts lengths values kinds₀ heights₀ sizes₀ work�
   pub sizes-same : length sizes ≡ length sizes₀
   pub work-same : length work ≡ length work₀
   pub labels-same : length labels ≡ length labels₀
-  pub lent : Lent types counts lengths values kinds heights sizes work labels
+  pub lent : JudgeInAsks types counts lengths values kinds heights sizes work labels
   pub going : Going types counts lengths values i at s kinds heights sizes work labels
 
 -- the areas keep their room
 pub lent-kept :
     (types counts lengths values : List ℕ) {kinds heights sizes work labels : List ℕ} (kinds′ heights′ sizes′ work′ labels′ : List ℕ)
-    → Lent types counts lengths values kinds heights sizes work labels
+    → JudgeInAsks types counts lengths values kinds heights sizes work labels
     → length kinds′ ≡ length kinds
     → length heights′ ≡ length heights
     → length sizes′ ≡ length sizes
     → length work′ ≡ length work
     → length labels′ ≡ length labels
-    → Lent types counts lengths values kinds′ heights′ sizes′ work′ labels′
+    → JudgeInAsks types counts lengths values kinds′ heights′ sizes′ work′ labels′
 lent-kept types counts lengths values kinds′ heights′ sizes′ work′ labels′ g ek eh es ew el =
     record {
       given = record { form = g .given .form; short = g .given .short; labels-room = omega arith };

@@ -16,7 +16,7 @@ use Rattle.trees.specs.Rules.{labelBytes, saltType, saltBytes, maxValue, maxTyp
 use Rattle.trees.specs.Rows.{Entry, node, tip, formed, Tag, headOf, highestOf, kids, below, parent, fault, next, stepOf}
 use Rattle.sha2.specs.Sha256 as Sha256
 use Rattle.sha2.specs.Blocks.{label-long}
-use Rattle.faults.specs.Waiting.{faultOf}
+use Rattle.faults.specs.Waiting.{stepFault}
 use Rattle.stack.specs.Areas.{pieces, cost, after, Sound}
 use Rattle.stack.specs.PieceLaws.{length-split, length-more}
 use Rattle.faults.specs.Steps.{Kept, kept}
@@ -108,7 +108,7 @@ module _ (composed : List ℕ → Bool) (st : List Tag) (w : all whole st ≡ tr
       all-append whole st (g ∷ []) w (and-both (whole g) true (leaf-whole t v f) refl)
 
   pub after-long :
-      (e : Entry) → formed e ≡ true → faultOf (stepOf Sha256.label composed st e) ≡ 0
+      (e : Entry) → formed e ≡ true → stepFault (stepOf Sha256.label composed st e) ≡ 0
       → length (pieces (after Sha256.label st e)) ≤ length (pieces st) + headBytes + bytesOf e
   after-long (node k) f z =
       let gs : List Tag = kids k st in
@@ -124,20 +124,20 @@ module _ (composed : List ℕ → Bool) (st : List Tag) (w : all whole st ≡ tr
       )
   after-long (tip t v) f z = omega (arith, length-more st (record { kind = t; height = 1; text = v }))
 
-  pub entry-sound : (e : Entry) → formed e ≡ true → faultOf (stepOf Sha256.label composed st e) ≡ 0 → Sound st e
+  pub entry-sound : (e : Entry) → formed e ≡ true → stepFault (stepOf Sha256.label composed st e) ≡ 0 → Sound st e
   entry-sound (node k) f z = let n : Kept st k = kept Sha256.label composed st k z in (n .there, n .low)
   entry-sound (tip t v) f z = let n : (t ≤ maxType) × (length v ≤ maxValue) = leaf-small t v f in omega arith
 
 module _ (H : List ℕ → List ℕ) (composed : List ℕ → Bool) (st : List Tag) where
   -- a step that meets no refusal makes the stack after the entry, at the entry's cost
-  pub goes-on : (e : Entry) → faultOf (stepOf H composed st e) ≡ 0 → stepOf H composed st e ≡ next (after H st e) (cost st e)
+  pub goes-on : (e : Entry) → stepFault (stepOf H composed st e) ≡ 0 → stepOf H composed st e ≡ next (after H st e) (cost st e)
   goes-on (node k) e =
       let n : Kept st k = kept H composed st k e in
       let low : highestOf (kids k st) + 1 ≤ maxHeight = omega arith in
       rw (le-ltb (length st) k (n .there), le-ltb maxHeight (highestOf (kids k st) + 1) low, n .salt)
   goes-on (tip t v) e = go (textFits composed t v) e
     where
-      go : (b : Bool) → faultOf (cond b (next (after H st (tip t v)) 0) (fault notComposed)) ≡ 0
+      go : (b : Bool) → stepFault (cond b (next (after H st (tip t v)) 0) (fault notComposed)) ≡ 0
           → cond b (next (after H st (tip t v)) 0) (fault notComposed) ≡ next (after H st (tip t v)) 0
       go true f = refl
       go false f = absurd (omega arith)

@@ -13,10 +13,10 @@ use Rattle.trees.specs.Rows.{Entry, formed, Tag, headOf, Step, next, fault, fau
 use Rattle.tables.specs.Tables.{entryOf, entries, rowFits, sum}
 use Rattle.sha2.specs.Sha256 as Sha256
 use Rattle.titles.specs.Compose.{composedText}
-use Rattle.engine.specs.Engine.{told, lastText, topOf, tops, Labelled}
-use Rattle.engine.specs.Judging.{Lent, Judges, Stands}
-use Rattle.faults.specs.Waiting.{faultOf, AlikeColumns}
-use Rattle.stack.specs.Areas.{after, cost, Laid, Ready, Grows}
+use Rattle.engine.specs.Engine.{told, lastText, topOf, tops, RowsLabelled}
+use Rattle.engine.specs.Judging.{JudgeInAsks, JudgeGives, SettledAsks}
+use Rattle.faults.specs.Waiting.{stepFault, AlikeColumns}
+use Rattle.stack.specs.Areas.{after, cost, Laid, GrowAsks, GrowGives}
 use Rattle.engine.specs.declared.judge.Judged.{Judged}
 use Rattle.stack.specs.declared.Stack.{Stack}
 use Rattle.faults.specs.Steps.{stops}
@@ -46,7 +46,7 @@ root-long {d} (g ∷ []) {kinds} l w one z =
 root-long (g ∷ (h ∷ gs)) l w one z = absurd (omega (arith, l .deep))
 
 module _ (types counts lengths values : List ℕ) (i at : ℕ) {s : Stack} {kinds heights sizes work labels : List ℕ}
-    (g : Lent types counts lengths values kinds heights sizes work labels)
+    (g : JudgeInAsks types counts lengths values kinds heights sizes work labels)
     (w : Going types counts lengths values i at s kinds heights sizes work labels)
   where
     -- the columns of those that wait
@@ -62,8 +62,8 @@ module _ (types counts lengths values : List ℕ) (i at : ℕ) {s : Stack} {kind
     -- the labels of all entries are those of the rows before
     labelled-by :
         tops Sha256.label composedText [] (entries types counts lengths values) ≡ w .before
-        → Labelled Sha256.label composedText (entries types counts lengths values) counts labels
-    unfolding Labelled
+        → RowsLabelled Sha256.label composedText (entries types counts lengths values) counts labels
+    unfolding RowsLabelled
     labelled-by e k h some =
         w .noted k (omega (arith, ap length e, w .passed)) some ∙ ap (λ (l : List (List ℕ)). getD l k []) (sym e)
 
@@ -104,10 +104,10 @@ module _ (types counts lengths values : List ℕ) (i at : ℕ) {s : Stack} {kind
         -- a refusal ends the run
         pub stopped :
             (number : ℕ) {r : Judged}
-            → number ≡ faultOf (stepOf Sha256.label composedText (w .st) entry)
+            → number ≡ stepFault (stepOf Sha256.label composedText (w .st) entry)
             → (number ≡ 0 → ⊥)
             → r ≡ told (faulty number i)
-            → Judges types counts lengths values r labels
+            → JudgeGives types counts lengths values r labels
         stopped number e n a =
             let es : List Entry = rest types counts lengths values (i + 1) (at + long) in
             let step : stepOf Sha256.label composedText (w .st) entry ≡ fault number = stops Sha256.label composedText (w .st) entry number e n in
@@ -128,7 +128,7 @@ module _ (types counts lengths values : List ℕ) (i at : ℕ) {s : Stack} {kind
             }
 
         -- else there is room for what it makes
-        pub ready : 0 ≡ faultOf (stepOf Sha256.label composedText (w .st) entry) → Ready s entry i kinds heights sizes work labels
+        pub ready : 0 ≡ stepFault (stepOf Sha256.label composedText (w .st) entry) → GrowAsks s entry i kinds heights sizes work labels
         ready z =
             record {
               st = w .st;
@@ -158,8 +158,8 @@ module _ (types counts lengths values : List ℕ) (i at : ℕ) {s : Stack} {kind
         -- and the run goes on
         pub going-next :
             {r : Stack} {kinds′ heights′ sizes′ work′ labels′ : List ℕ}
-            → 0 ≡ faultOf (stepOf Sha256.label composedText (w .st) entry)
-            → Grows Sha256.label (w .st) entry i s r labels kinds′ heights′ sizes′ work′ labels′
+            → 0 ≡ stepFault (stepOf Sha256.label composedText (w .st) entry)
+            → GrowGives Sha256.label (w .st) entry i s r labels kinds′ heights′ sizes′ work′ labels′
             → Going types counts lengths values (i + 1) (at + long) r kinds′ heights′ sizes′ work′ labels′
         going-next {r} z n =
             let es : List Entry = rest types counts lengths values (i + 1) (at + long) in
@@ -215,7 +215,7 @@ module _ (types counts lengths values : List ℕ) (i at : ℕ) {s : Stack} {kind
     -- After the last row.
     module _ (last : length types ≤ i) where
       pub done :
-          {r : Judged} → r ≡ told (left (w .st) (s .blocks)) → Judges types counts lengths values r labels
+          {r : Judged} → r ≡ told (left (w .st) (s .blocks)) → JudgeGives types counts lengths values r labels
       done a =
           let none : rest types counts lengths values i at ≡ [] = entries-end types counts lengths values i at last in
           record {
@@ -228,7 +228,7 @@ module _ (types counts lengths values : List ℕ) (i at : ℕ) {s : Stack} {kind
                 (w .tops-are ∙ ap (λ (l : List Entry). w .before ++ tops Sha256.label composedText (w .st) l) none ∙ append-nil (w .before));
           }
 
-      pub stands : i ≤ length types → Stands s kinds work
+      pub stands : i ≤ length types → SettledAsks s kinds work
       stands h =
           record {
             kinds-room = omega (arith, g .kinds-room, w .few);

@@ -46,6 +46,6 @@ module _ (H : List ℕ → List ℕ) (composed : List ℕ → Bool) where
   tops st (e ∷ es) = topOf (stepOf H composed st e) (λ z. tops z es)
 
   -- an area that holds 32 bytes for each entry, and at each internal node's entry its label
-  unfoldable pub Labelled : List Entry → List ℕ → List ℕ → Type 0
-  Labelled es counts area =
+  unfoldable pub RowsLabelled : List Entry → List ℕ → List ℕ → Type 0
+  RowsLabelled es counts area =
       (k : ℕ) → k < length (tops [] es) → 0 < getD counts k 0 → take labelBytes (drop (labelBytes * k) area) ≡ getD (tops [] es) k []

@@ -18,7 +18,7 @@ ghost use Rattle.tables.specs.Areas.{smallNodes, smallBytes};
 ghost use Rattle.faults.specs.Waiting.{kindOf};
 ghost use Rattle.stack.specs.Areas.{pieces};
 ghost use Rattle.engine.specs.Engine.{told};
-ghost use Rattle.engine.specs.Judging.{Given, Within, Lent, Stands, Judges};
+ghost use Rattle.engine.specs.Judging.{JudgeAsks, JudgeSizedAsks, JudgeInAsks, SettledAsks, JudgeGives};
 
 pub struct Judged {
     pub number: usize,
@@ -54,7 +54,7 @@ fn alone(depth: usize, kinds: &[u16]) -> bool
 
 // What is told of a stack at the end. A root's label stands behind the head of the only piece.
 fn settled(s: Stack, kinds: &[u16], work: &[u8]) -> Judged
-    requires { ⌜ Stands s (now kinds) (now work) ⌝ }
+    requires { ⌜ SettledAsks s (now kinds) (now work) ⌝ }
     ensures { λ r. ⌜ ((st : List Tag) → length st ≡ s .depth → take (s .depth) (now (kinds .entry)) ≡ map kindOf st → take (s .top) (now (work .entry)) ≡ pieces st → r ≡ told (left st (s .blocks))) ⌝ }
 {
     let one = alone(s.depth, kinds);
@@ -85,8 +85,8 @@ fn judge_in(
     work: &mut [u8],
     labels: &mut [u8],
 ) -> Judged
-    requires { ⌜ Lent (now types) (now counts) (now lengths) (now values) (now kinds) (now heights) (now sizes) (now work) (now labels) ⌝ }
-    ensures { λ r. ⌜ Judges (now (types .entry)) (now (counts .entry)) (now (lengths .entry)) (now (values .entry)) r (now (labels .exit)) ⌝ }
+    requires { ⌜ JudgeInAsks (now types) (now counts) (now lengths) (now values) (now kinds) (now heights) (now sizes) (now work) (now labels) ⌝ }
+    ensures { λ r. ⌜ JudgeGives (now (types .entry)) (now (counts .entry)) (now (lengths .entry)) (now (values .entry)) r (now (labels .exit)) ⌝ }
 {
     let mut s = Stack {
         depth: 0,
@@ -111,7 +111,7 @@ fn judge_in(
         if number != Refusal::ACCEPTED {
             return refused(number, i);
         }
-        let next = stack::grown(
+        let next = stack::grow(
             s,
             kind,
             count,
@@ -132,8 +132,8 @@ fn judge_in(
 
 // With a stack for the rows and values of a small slip.
 fn small(types: &[u16], counts: &[u16], lengths: &[u16], values: &[u8], labels: &mut [u8]) -> Judged
-    requires { ⌜ Within (now types) (now counts) (now lengths) (now values) (now labels) smallNodes smallBytes ⌝ }
-    ensures { λ r. ⌜ Judges (now (types .entry)) (now (counts .entry)) (now (lengths .entry)) (now (values .entry)) r (now (labels .exit)) ⌝ }
+    requires { ⌜ JudgeSizedAsks (now types) (now counts) (now lengths) (now values) (now labels) smallNodes smallBytes ⌝ }
+    ensures { λ r. ⌜ JudgeGives (now (types .entry)) (now (counts .entry)) (now (lengths .entry)) (now (values .entry)) r (now (labels .exit)) ⌝ }
 {
     let mut kinds = [0u16; Small::NODES];
     let mut heights = [0u16; Small::NODES];
@@ -154,8 +154,8 @@ fn small(types: &[u16], counts: &[u16], lengths: &[u16], values: &[u8], labels: 
 
 // With a stack for any table.
 fn large(types: &[u16], counts: &[u16], lengths: &[u16], values: &[u8], labels: &mut [u8]) -> Judged
-    requires { ⌜ Within (now types) (now counts) (now lengths) (now values) (now labels) maxNodes maxBytes ⌝ }
-    ensures { λ r. ⌜ Judges (now (types .entry)) (now (counts .entry)) (now (lengths .entry)) (now (values .entry)) r (now (labels .exit)) ⌝ }
+    requires { ⌜ JudgeSizedAsks (now types) (now counts) (now lengths) (now values) (now labels) maxNodes maxBytes ⌝ }
+    ensures { λ r. ⌜ JudgeGives (now (types .entry)) (now (counts .entry)) (now (lengths .entry)) (now (values .entry)) r (now (labels .exit)) ⌝ }
 {
     let mut kinds = [0u16; Slip::MAX_NODES];
     let mut heights = [0u16; Slip::MAX_NODES];
@@ -182,8 +182,8 @@ pub fn judge(
     values: &[u8],
     labels: &mut [u8],
 ) -> Judged
-    requires { ⌜ Given (now types) (now counts) (now lengths) (now values) (now labels) ⌝ }
-    ensures { λ r. ⌜ Judges (now (types .entry)) (now (counts .entry)) (now (lengths .entry)) (now (values .entry)) r (now (labels .exit)) ⌝ }
+    requires { ⌜ JudgeAsks (now types) (now counts) (now lengths) (now values) (now labels) ⌝ }
+    ensures { λ r. ⌜ JudgeGives (now (types .entry)) (now (counts .entry)) (now (lengths .entry)) (now (values .entry)) r (now (labels .exit)) ⌝ }
 {
     if types.len() <= Small::NODES {
         if values.len() <= Small::BYTES {

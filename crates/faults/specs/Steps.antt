@@ -11,7 +11,7 @@ use Rattle.outcomes.specs.Refusals.{childrenMissing, tooHigh, saltBroken, notCo
 use Rattle.trees.specs.Rules.{maxHeight, firstText, lastText, salted}
 use Rattle.trees.specs.Rows.{Entry, node, tip, Tag, headOf, highestOf, Step, fault, next, kids, stepOf}
 use Rattle.tables.specs.Tables.{entryOf}
-use Rattle.faults.specs.Waiting.{faultOf}
+use Rattle.faults.specs.Waiting.{stepFault}
 use Rattle.lists.specs.TestsLaws.{and-false}
 
 -- a row's entry, by its count of children
@@ -24,29 +24,29 @@ entry-node t (suc c) v h = refl
 
 module _ (H : List ℕ → List ℕ) (composed : List ℕ → Bool) (st : List Tag) where
   -- 8, at a leaf
-  pub below-text : (t : ℕ) (v : List ℕ) → t < firstText → 0 ≡ faultOf (stepOf H composed st (tip t v))
+  pub below-text : (t : ℕ) (v : List ℕ) → t < firstText → 0 ≡ stepFault (stepOf H composed st (tip t v))
   below-text t v h = rw (lt-leb firstText t h)
 
-  pub above-text : (t : ℕ) (v : List ℕ) → lastText < t → 0 ≡ faultOf (stepOf H composed st (tip t v))
+  pub above-text : (t : ℕ) (v : List ℕ) → lastText < t → 0 ≡ stepFault (stepOf H composed st (tip t v))
   above-text t v h = rw (lt-leb t lastText h, and-false (leb firstText t))
 
   pub at-text : (t : ℕ) (v : List ℕ) (b : Bool) → firstText ≤ t → t ≤ lastText → b ≡ composed v
-      → cond b 0 notComposed ≡ faultOf (stepOf H composed st (tip t v))
+      → cond b 0 notComposed ≡ stepFault (stepOf H composed st (tip t v))
   at-text t v true h l e = rw (le-leb firstText t h, le-leb t lastText l, ← e)
   at-text t v false h l e = rw (le-leb firstText t h, le-leb t lastText l, ← e)
 
   -- 5, 6 and 7, at an internal node
-  pub too-few : (k : ℕ) → length st < k → childrenMissing ≡ faultOf (stepOf H composed st (node k))
+  pub too-few : (k : ℕ) → length st < k → childrenMissing ≡ stepFault (stepOf H composed st (node k))
   too-few k h = rw (lt-ltb (length st) k h)
 
   module _ (k : ℕ) (h : k ≤ length st) where
-    pub too-high : maxHeight ≤ highestOf (kids k st) → tooHigh ≡ faultOf (stepOf H composed st (node k))
+    pub too-high : maxHeight ≤ highestOf (kids k st) → tooHigh ≡ stepFault (stepOf H composed st (node k))
     too-high l =
         let over : maxHeight < highestOf (kids k st) + 1 = omega arith in
         rw (le-ltb (length st) k h, lt-ltb maxHeight (highestOf (kids k st) + 1) over)
 
     pub by-salt : (b : Bool) → highestOf (kids k st) < maxHeight → b ≡ salted (map headOf (kids k st))
-        → cond b 0 saltBroken ≡ faultOf (stepOf H composed st (node k))
+        → cond b 0 saltBroken ≡ stepFault (stepOf H composed st (node k))
     by-salt true l e =
         let low : highestOf (kids k st) + 1 ≤ maxHeight = omega arith in
         rw (le-ltb (length st) k h, le-ltb maxHeight (highestOf (kids k st) + 1) low, ← e)
@@ -61,14 +61,14 @@ pub record Kept (st : List Tag) (k : ℕ) : Type 0 where
   pub salt : salted (map headOf (kids k st)) ≡ true
 
 module _ (H : List ℕ → List ℕ) (composed : List ℕ → Bool) (st : List Tag) where
-  pub kept : (k : ℕ) → faultOf (stepOf H composed st (node k)) ≡ 0 → Kept st k
+  pub kept : (k : ℕ) → stepFault (stepOf H composed st (node k)) ≡ 0 → Kept st k
   kept k e =
       go _ _ (ltb (length st) k) refl (ltb maxHeight (highestOf (kids k st) + 1)) refl (salted (map headOf (kids k st))) refl e
     where
       go : (z : List Tag) (c : ℕ) (a : Bool) → ltb (length st) k ≡ a
           → (b : Bool) → ltb maxHeight (highestOf (kids k st) + 1) ≡ b
           → (s : Bool) → salted (map headOf (kids k st)) ≡ s
-          → faultOf (cond a (fault childrenMissing) (cond b (fault tooHigh) (cond s (next z c) (fault saltBroken)))) ≡ 0
+          → stepFault (cond a (fault childrenMissing) (cond b (fault tooHigh) (cond s (next z c) (fault saltBroken)))) ≡ 0
           → Kept st k
       go z c true p b q s r f = absurd (omega arith)
       go z c false p true q s r f = absurd (omega arith)
@@ -78,9 +78,9 @@ module _ (H : List ℕ → List ℕ) (composed : List ℕ → Bool) (st : List T
           record { there = ltb-false (length st) k p; low = omega arith; salt = r }
 
   -- one that meets a refusal is that refusal
-  pub stops : (e : Entry) (k : ℕ) → k ≡ faultOf (stepOf H composed st e) → (k ≡ 0 → ⊥) → stepOf H composed st e ≡ fault k
+  pub stops : (e : Entry) (k : ℕ) → k ≡ stepFault (stepOf H composed st e) → (k ≡ 0 → ⊥) → stepOf H composed st e ≡ fault k
   stops e k p n = go (stepOf H composed st e) p
     where
-      go : (s : Step) → k ≡ faultOf s → s ≡ fault k
+      go : (s : Step) → k ≡ stepFault s → s ≡ fault k
       go (fault j) q = ap fault (sym q)
       go (next z c) q = absurd (n q)

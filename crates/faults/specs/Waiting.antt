@@ -21,9 +21,9 @@ greatest [] = 0
 greatest (x ∷ xs) = max x (greatest xs)
 
 -- the number of a step's refusal; 0 where it has none
-abbrev pub faultOf : Step → ℕ
-faultOf (fault k) = k
-faultOf (next st c) = 0
+abbrev pub stepFault : Step → ℕ
+stepFault (fault k) = k
+stepFault (next st c) = 0
 
 -- three columns of one length
 pub record AlikeColumns (kinds heights sizes : List ℕ) : Type 0 where

@@ -10,7 +10,7 @@ ghost use Rattle.trees.specs.Rules.{salted};
 ghost use Rattle.trees.specs.Rows.{Tag, headOf, stepOf, node, tip};
 ghost use Rattle.tables.specs.Tables.{entryOf};
 ghost use Rattle.titles.specs.Compose.{composedText};
-ghost use Rattle.faults.specs.Waiting.{StackColumns, AlikeColumns, kindOf, sizeOf, greatest, faultOf};
+ghost use Rattle.faults.specs.Waiting.{StackColumns, AlikeColumns, kindOf, sizeOf, greatest, stepFault};
 
 // "its highest child"
 pub fn highest(heights: &[u16]) -> usize
@@ -55,7 +55,7 @@ fn salt_rule(kinds: &[u16], sizes: &[u16]) -> bool
 // An internal node over the last `count` of those that wait.
 fn node_fault(count: usize, kinds: &[u16], heights: &[u16], sizes: &[u16]) -> usize
     requires { ⌜ (0 < count) × AlikeColumns (now kinds) (now heights) (now sizes) ⌝ }
-    ensures { λ r. ⌜ ((H : List ℕ → List ℕ) (st : List Tag) → StackColumns st (now (kinds .entry)) (now (heights .entry)) (now (sizes .entry)) → r ≡ faultOf (stepOf H composedText st (node count))) ⌝ }
+    ensures { λ r. ⌜ ((H : List ℕ → List ℕ) (st : List Tag) → StackColumns st (now (kinds .entry)) (now (heights .entry)) (now (sizes .entry)) → r ≡ stepFault (stepOf H composedText st (node count))) ⌝ }
 {
     let depth = kinds.len();
     if depth < count {
@@ -76,7 +76,7 @@ fn node_fault(count: usize, kinds: &[u16], heights: &[u16], sizes: &[u16]) -> us
 
 // "A text value in a slip must already be composed."
 fn leaf_fault(kind: usize, value: &[u8]) -> usize
-    ensures { λ r. ⌜ ((H : List ℕ → List ℕ) (st : List Tag) → r ≡ faultOf (stepOf H composedText st (tip kind (now (value .entry))))) ⌝ }
+    ensures { λ r. ⌜ ((H : List ℕ → List ℕ) (st : List Tag) → r ≡ stepFault (stepOf H composedText st (tip kind (now (value .entry))))) ⌝ }
 {
     if kind < Slip::FIRST_TEXT {
         return Refusal::ACCEPTED;
@@ -102,7 +102,7 @@ pub fn fault(
     sizes: &[u16],
 ) -> usize
     requires { ⌜ AlikeColumns (now kinds) (now heights) (now sizes) ⌝ }
-    ensures { λ r. ⌜ ((H : List ℕ → List ℕ) (st : List Tag) → StackColumns st (now (kinds .entry)) (now (heights .entry)) (now (sizes .entry)) → r ≡ faultOf (stepOf H composedText st (entryOf kind count (now (value .entry))))) ⌝ }
+    ensures { λ r. ⌜ ((H : List ℕ → List ℕ) (st : List Tag) → StackColumns st (now (kinds .entry)) (now (heights .entry)) (now (sizes .entry)) → r ≡ stepFault (stepOf H composedText st (entryOf kind count (now (value .entry))))) ⌝ }
 {
     if count == 0 {
         leaf_fault(kind, value)

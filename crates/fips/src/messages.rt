@@ -76,7 +76,7 @@ fn extended(d: Digest, digits: &[u8]) -> Taken
     let mut bytes = [0u8; PART];
     let is = digits::decoded(digits, &mut bytes);
     let n = digits.len() / 2;
-    let digest = lent::grown(d, &bytes[..n]);
+    let digest = lent::absorbed(d, &bytes[..n]);
     Taken { is, digest }
 }
 
@@ -108,6 +108,6 @@ pub fn turned(seed: [u8; 32]) -> [u8; 32]
 fn joined(a: [u8; 32], b: [u8; 32], c: [u8; 32]) -> [u8; 32]
     ensures { λ r. ⌜ r ≡ Sha256.label ((a ++ b) ++ c) ⌝ }
 {
-    let d = lent::grown(Digest::new(), &a);
-    lent::grown(lent::grown(d, &b), &c).finish()
+    let d = lent::absorbed(Digest::new(), &a);
+    lent::absorbed(lent::absorbed(d, &b), &c).finish()
 }

@@ -12,7 +12,7 @@ use Rattle.trees.specs.Rows.{rows}
 use Rattle.tables.specs.Tables.{entries, rowFits, firstBad, sum}
 use Rattle.tables.specs.Records.{Holds}
 use Rattle.columns.specs.Columns.{back}
-use Rattle.join_rows.specs.Plans.{Two}
+use Rattle.join_rows.specs.Plans.{TwoTables}
 
 -- "Under a label of 32 copies of prelabel length modulo 256"
 abbrev copies : List ℕ → List ℕ
@@ -61,7 +61,7 @@ held v vs ls e h k l =
     labelled (suc (suc (suc k))) h p = absurd (omega arith)
 
 -- both tables end to end
-pub example-two : Two copies (tree 0) (tree 1) 3 types counts lengths values labels
+pub example-two : TwoTables copies (tree 0) (tree 1) 3 types counts lengths values labels
 unfolding sum
 example-two =
     record {

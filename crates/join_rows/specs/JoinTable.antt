@@ -13,8 +13,8 @@ use Rattle.tables.specs.Tables.{sum}
 use Rattle.tables.specs.TablesLaws.{sum-append, sum-part}
 use Rattle.lists.specs.Lists.{Names}
 use Rattle.join_rows.specs.Faces.{Face, noFace, bytesOfFace, faces}
-use Rattle.columns.specs.Columns.{valueAt, Surveyed}
-use Rattle.join_rows.specs.Plans.{Two}
+use Rattle.columns.specs.Columns.{valueAt, SurveyGives}
+use Rattle.join_rows.specs.Plans.{TwoTables}
 use Rattle.columns.specs.Gathers.{cellOf, valuesOf, InRange, Gatherable}
 use Rattle.join_rows.specs.JoinWeight.{Light, join-light}
 use Rattle.join_rows.specs.TablesLaws.{Shows, shows-as, shown-bytes}
@@ -22,7 +22,7 @@ use Rattle.join_rows.specs.TwoLaws.{row-shows, all-faces, counts-long, l
 use Rattle.join_rows.specs.GatherLaws.{named-table, named-bytes, names-in-range}
 
 module _ (H : List ℕ → List ℕ) (a b : Node) (first : ℕ) (types counts lengths values labels starts offsets : List ℕ)
-    (h : Two H a b first types counts lengths values labels) (g : Surveyed counts lengths starts offsets) where
+    (h : TwoTables H a b first types counts lengths values labels) (g : SurveyGives counts lengths starts offsets) where
   abbrev both : List Face
   both = faces H a ++ faces H b
 

@@ -20,9 +20,9 @@ use Rattle.columns.specs.declared.meet.Meeting.the-variants.{Clash, Take, Both}
 use Rattle.join_rows.specs.declared.walk.Walked.{Walked}
 use Rattle.join_rows.specs.Faces.{Face, noFace, countOfFace, faces, facesIn, root}
 use Rattle.join_rows.specs.FacesLaws.{length-faces}
-use Rattle.columns.specs.Columns.{headAt, headsBack, agree}
+use Rattle.columns.specs.Columns.{headAt, headsBack, headsAgree}
 use Rattle.columns.specs.Meetings.{meetingAt}
-use Rattle.join_rows.specs.Walks.{Put, Reads, Placed, Said, SaidRun}
+use Rattle.join_rows.specs.Walks.{PutGives, Reads, Placed, Said, SaidRun}
 use Rattle.join_rows.specs.StartsLaws.{root-last, inner-at, children-at, count-at, start-node, heads-run}
 use Rattle.join_rows.specs.WalksLaws.{placed-put, node-wraps}
 use Rattle.join_rows.specs.AgreeLaws.{agree-same, unequal}
@@ -32,7 +32,7 @@ pub taken-row : (head : ℕ → Head) (counts starts : List ℕ) (i j row n : �
     → j < n → row < n
 taken-row head counts starts i j row n m o e h k =
     go (eqb (getD counts j 0) 0) (eqb (getD counts i 0) 0) (eqb (getD counts i 0) (getD counts j 0))
-    (agree (headsBack head starts (getD counts i 0) i) (headsBack head starts (getD counts i 0) j)) (sym o ∙ e)
+    (headsAgree (headsBack head starts (getD counts i 0) i) (headsBack head starts (getD counts i 0) j)) (sym o ∙ e)
   where
     go : (p q r s : Bool) → cond p (Take i) (cond q (Take j) (cond r (cond s Both Clash) Clash)) ≡ Take row → row < n
     go true q r s e = let z : i ≡ row = cc in omega arith
@@ -77,14 +77,14 @@ module _ (H : List ℕ → List ℕ) where
 
     inner-meet : (r s : Run) (x y : ℕ) → At noFace fs x (faces H (inner r)) → At noFace fs y (faces H (inner s))
         → (b : Bool) → eqb (getD counts (x + sizes r) 0) (getD counts (y + sizes s) 0) ≡ b
-        → cond b (cond (agree (headsBack head starts (getD counts (x + sizes r) 0) (x + sizes r))
+        → cond b (cond (headsAgree (headsBack head starts (getD counts (x + sizes r) 0) (x + sizes r))
         (headsBack head starts (getD counts (x + sizes r) 0) (y + sizes s))) Both Clash) Clash
         ≡ cond (same (prelabel (heads H r)) (prelabel (heads H s))) Both Clash
     inner-meet r s x y h k true e =
         let n : getD counts (x + sizes r) 0 ≡ count r = inner-count r x h in
         let m : getD counts (x + sizes r) 0 ≡ count s = eqb-true _ _ e ∙ inner-count s y k in
         ap (λ (b : Bool). cond b Both Clash)
-        (ap₂ agree (inner-heads r x _ h n) (inner-heads s y _ k m)
+        (ap₂ headsAgree (inner-heads r x _ h n) (inner-heads s y _ k m)
         ∙ agree-same (heads H r) (heads H s) (length-heads H r ∙ sym n ∙ m ∙ sym (length-heads H s)))
     inner-meet r s x y h k false e =
         ap (λ (b : Bool). cond b Both Clash)
@@ -116,7 +116,7 @@ module _ (H : List ℕ → List ℕ) where
 
     -- all rows of a subtree
     taken : (n : Node) (b row at low : ℕ) (p q : List ℕ) → root b n ≡ row → At noFace fs b (faces H n)
-        → Put (getD starts row 0) (row + 1) at p q low → size n ≤ at → Placed fs at low p q (faces H n)
+        → PutGives (getD starts row 0) (row + 1) at p q low → size n ≤ at → Placed fs at low p q (faces H n)
     taken n b row at low p q e h g k =
         let start : getD starts row 0 ≡ b =
         ap (λ (l : ℕ). getD starts l 0) (sym e) ∙ start-node H fs counts starts (reads .counts-are) (reads .starts-are) n b h in
@@ -126,7 +126,7 @@ module _ (H : List ℕ → List ℕ) where
 
     -- "below a place that is internal in one slip only, it holds that slip's nodes"
     pub take-said : (a b : Node) (x y at low row : ℕ) (p q : List ℕ) → At noFace fs x (faces H a) → At noFace fs y (faces H b)
-        → meetingOf (root x a) (root y b) a b ≡ Take row → Put (getD starts row 0) (row + 1) at p q low
+        → meetingOf (root x a) (root y b) a b ≡ Take row → PutGives (getD starts row 0) (row + 1) at p q low
         → Said H fs a b x y at p q (record { clash = false; first = 0; second = 0; at = low }) (join H a b)
     take-said (inner r) (inner s) x y at low row p q h k e g =
         absurd (go (same (prelabel (heads H r)) (prelabel (heads H s))) e)
@@ -146,7 +146,7 @@ module _ (H : List ℕ → List ℕ) where
 
     -- "The join of a node is made from its run of children"
     pub both-said : (a b : Node) (x y at mid : ℕ) (p q z : List ℕ) (w : Walked) → At noFace fs x (faces H a) → At noFace fs y (faces H b)
-        → meetingOf (root x a) (root y b) a b ≡ Both → Put (root x a) (root x a + 1) at p q mid
+        → meetingOf (root x a) (root y b) a b ≡ Both → PutGives (root x a) (root x a + 1) at p q mid
         → RunsSaid (root x a) (root y b) (getD counts (root x a) 0) mid q z w
         → Said H fs a b x y at p z w (join H a b)
     both-said (inner r) (inner s) x y at mid p q z w h k e g runs = go (same (prelabel (heads H r)) (prelabel (heads H s))) refl e

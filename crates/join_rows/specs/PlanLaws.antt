@@ -15,14 +15,14 @@ use Rattle.lists.specs.Lists.{At, Names}
 use Rattle.lists.specs.ListsLaws.{at-part}
 use Rattle.join_rows.specs.Faces.{Face, noFace, faces}
 use Rattle.join_rows.specs.FacesLaws.{length-faces}
-use Rattle.columns.specs.Columns.{Surveyed}
-use Rattle.join_rows.specs.Walks.{Placed, Said, NodeWalk}
-use Rattle.join_rows.specs.Plans.{Two, PlannedAs}
+use Rattle.columns.specs.Columns.{SurveyGives}
+use Rattle.join_rows.specs.Walks.{Placed, Said, NodeGives}
+use Rattle.join_rows.specs.Plans.{TwoTables, PlannedAs}
 use Rattle.join_rows.specs.StartsLaws.{root-last}
 use Rattle.join_rows.specs.TwoLaws.{first-rows, all-rows, two-reads}
 
 module _ (H : List ℕ → List ℕ) (a b : Node) (first : ℕ) (types counts lengths values labels starts offsets : List ℕ)
-    (h : Two H a b first types counts lengths values labels) (g : Surveyed counts lengths starts offsets) where
+    (h : TwoTables H a b first types counts lengths values labels) (g : SurveyGives counts lengths starts offsets) where
   abbrev fs : List Face
   fs = faces H a ++ faces H b
 
@@ -34,7 +34,7 @@ module _ (H : List ℕ → List ℕ) (a b : Node) (first : ℕ) (types counts le
 
   -- what the walk says of the two trees
   pub two-said : (p q : List ℕ) (at : ℕ) (w : Walked)
-      → NodeWalk types counts lengths values labels starts offsets p q (first - 1) (length types - 1) at w
+      → NodeGives types counts lengths values labels starts offsets p q (first - 1) (length types - 1) at w
       → Said H fs a b 0 first at p q w (join H a b)
   two-said p q at w n =
       let rows : first ≡ size a = first-rows H a b first types counts lengths values labels h in

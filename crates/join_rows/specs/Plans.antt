@@ -13,22 +13,22 @@ use Rattle.tables.specs.Records.{Holds}
 use Rattle.join_rows.specs.declared.plan.Planned.{Planned}
 use Rattle.lists.specs.Lists.{Names}
 use Rattle.join_rows.specs.Faces.{noFace, faces}
-use Rattle.columns.specs.Columns.{Surveyed}
+use Rattle.columns.specs.Columns.{SurveyGives}
 
 -- the tables of two trees stand end to end in the columns, the second from row `first` on; its values follow the first's
-pub record Two (H : List ℕ → List ℕ) (a b : Node) (first : ℕ) (types counts lengths values labels : List ℕ) : Type 0 where
+pub record TwoTables (H : List ℕ → List ℕ) (a b : Node) (first : ℕ) (types counts lengths values labels : List ℕ) : Type 0 where
   pub one : Holds H a (take first types) (take first counts) (take first lengths) values labels
   pub two :
       Holds H b (drop first types) (drop first counts) (drop first lengths) (drop (sum (take first lengths)) values)
       (drop (labelBytes * first) labels)
 
 -- what the plan is made from: columns that hold two trees, surveyed, and room for all their rows
-pub record Planning (first : ℕ) (types counts lengths values labels starts offsets plan : List ℕ) : Type 0 where
+pub record PlanAsks (first : ℕ) (types counts lengths values labels starts offsets plan : List ℕ) : Type 0 where
   pub H : List ℕ → List ℕ
   pub a : Node
   pub b : Node
-  pub two : Two H a b first types counts lengths values labels
-  pub surveyed : Surveyed counts lengths starts offsets
+  pub two : TwoTables H a b first types counts lengths values labels
+  pub surveyed : SurveyGives counts lengths starts offsets
   pub room : length types ≤ length plan
 
 -- the answer by the join: a clash and its entry in each tree, or the join's rows, named by the plan's last cells
@@ -39,8 +39,8 @@ PlannedAs H a b plan r (ok c) =
 PlannedAs H a b plan r (clash p) = (r .clash ≡ true) × (r .first ≡ number a p) × (r .second ≡ number b p) × (r .rows ≡ 0)
 
 -- whatever label function and trees the columns hold
-abbrev pub Plans : ℕ → List ℕ → List ℕ → List ℕ → List ℕ → List ℕ → List ℕ → Planned → Type 0
-Plans first types counts lengths values labels plan r =
+abbrev pub PlanGives : ℕ → List ℕ → List ℕ → List ℕ → List ℕ → List ℕ → List ℕ → Planned → Type 0
+PlanGives first types counts lengths values labels plan r =
     (H : List ℕ → List ℕ) (a b : Node)
-    → Two H a b first types counts lengths values labels
+    → TwoTables H a b first types counts lengths values labels
     → PlannedAs H a b plan r (join H a b)

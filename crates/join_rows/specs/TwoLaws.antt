@@ -15,13 +15,13 @@ use Rattle.tables.specs.Tables.{sum}
 use Rattle.tables.specs.TablesLaws.{sum-append, sum-part}
 use Rattle.join_rows.specs.Faces.{noFace, faces}
 use Rattle.join_rows.specs.FacesLaws.{length-faces}
-use Rattle.columns.specs.Columns.{Surveyed, Ready}
+use Rattle.columns.specs.Columns.{SurveyGives, Walkable}
 use Rattle.join_rows.specs.Walks.{Reads}
 use Rattle.join_rows.specs.TablesLaws.{Shows, shows-as, table-shows, table-long, shown-count, shown-full, shown-head}
-use Rattle.join_rows.specs.Plans.{Two}
+use Rattle.join_rows.specs.Plans.{TwoTables}
 
 module _ (H : List ℕ → List ℕ) (a b : Node) (first : ℕ) (types counts lengths values labels : List ℕ)
-    (h : Two H a b first types counts lengths values labels) where
+    (h : TwoTables H a b first types counts lengths values labels) where
   second-rows : length types - first ≡ size b
   second-rows = sym (length-drop first types) ∙ table-long H b _ _ _ _ _ (h .two)
 
@@ -91,8 +91,8 @@ module _ (H : List ℕ → List ℕ) (a b : Node) (first : ℕ) (types counts le
         length-drop (sum (take first lengths)) values,
       )
 
-  module _ (starts offsets : List ℕ) (g : Surveyed counts lengths starts offsets) where
-    pub two-ready : Ready types counts lengths values labels starts offsets
+  module _ (starts offsets : List ℕ) (g : SurveyGives counts lengths starts offsets) where
+    pub two-ready : Walkable types counts lengths values labels starts offsets
     two-ready =
         record {
           counts-long = counts-long;

@@ -18,7 +18,7 @@ earlierOf front last =
     cond (front .clash) front (record { clash = last .clash; first = last .first; second = last .second; at = front .at })
 
 -- the rows from `from` up to `to` stand before the cells from `at` on, if there is room
-pub record Put (from to at : ℕ) (entry exit : List ℕ) (r : ℕ) : Type 0 where
+pub record PutGives (from to at : ℕ) (entry exit : List ℕ) (r : ℕ) : Type 0 where
   pub low : r ≤ at
   pub spent : from ≤ to → to - from ≤ at → r + (to - from) ≡ at
   pub is : from ≤ to → to - from ≤ at → drop r exit ≡ upto from (to - from) ++ drop at entry
@@ -49,7 +49,7 @@ module _ (H : List ℕ → List ℕ) (fs : List Face) where
   SaidRun r s x y at entry exit w (clashAt i p) = (w .clash ≡ true) × (w .first ≡ x + numberIn r i p) × (w .second ≡ y + numberIn s i p)
 
 -- what the walk of two nodes does, whatever trees stand in the columns
-pub record NodeWalk (types counts lengths values labels starts offsets entry exit : List ℕ) (i j at : ℕ) (w : Walked) : Type 0 where
+pub record NodeGives (types counts lengths values labels starts offsets entry exit : List ℕ) (i j at : ℕ) (w : Walked) : Type 0 where
   pub low : w .at ≤ at
   pub said :
       (H : List ℕ → List ℕ) (fs : List Face)
@@ -62,7 +62,7 @@ pub record NodeWalk (types counts lengths values labels starts offsets entry exi
       → Said H fs a b x y at entry exit w (join H a b)
 
 -- and of two runs with the same heads
-pub record RunWalk (types counts lengths values labels starts offsets entry exit : List ℕ) (e f k at : ℕ) (w : Walked) : Type 0 where
+pub record RunGives (types counts lengths values labels starts offsets entry exit : List ℕ) (e f k at : ℕ) (w : Walked) : Type 0 where
   pub low : w .at ≤ at
   pub said :
       (H : List ℕ → List ℕ) (fs : List Face)

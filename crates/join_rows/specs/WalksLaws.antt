@@ -17,7 +17,7 @@ use Rattle.join_rows.specs.Faces.{Face, ofInner, noFace, faces, facesIn,
 use Rattle.join_rows.specs.FacesLaws.{length-faces}
 use Rattle.join_rows.specs.Runs.{snoc, sizes-snoc, number-last, number-front, bothLast, Within, faces-snoc, join-snoc, join-within}
 use Rattle.join_rows.specs.JoinWeight.{Light, join-light}
-use Rattle.join_rows.specs.Walks.{earlierOf, Put, Placed, Said, SaidRun}
+use Rattle.join_rows.specs.Walks.{earlierOf, PutGives, Placed, Said, SaidRun}
 use Rattle.join_rows.specs.StartsLaws.{inner-at}
 
 -- what is placed in front of what is placed
@@ -32,7 +32,7 @@ placed-more {fs} {at} {mid} {low} {p} {q} {s} {x} {y} g h =
     }
 
 -- rows that are put show what stands there
-pub placed-put : {fs : List Face} {from to at low : ℕ} {p q : List ℕ} (x : List Face) → Put from to at p q low → At noFace fs from x
+pub placed-put : {fs : List Face} {from to at low : ℕ} {p q : List ℕ} (x : List Face) → PutGives from to at p q low → At noFace fs from x
     → from + length x ≡ to → length x ≤ at → Placed fs at low p q x
 placed-put {fs} {from} {to} {at} {low} {p} {q} x g h e k =
     let n : to - from ≡ length x = omega arith in
@@ -103,7 +103,7 @@ module _ (H : List ℕ → List ℕ) where
 
     -- a node from its run
     pub node-wraps : (r s : Run) (x y at mid : ℕ) (p q z : List ℕ) (w : Walked) → At noFace fs x (faces H (inner r))
-        → Put (x + sizes r) (x + sizes r + 1) at p q mid
+        → PutGives (x + sizes r) (x + sizes r + 1) at p q mid
         → (k : JointRun) → GoodRun H r s k → SaidRun H fs r s x y mid q z w k
         → Said H fs (inner r) (inner s) x y at p z w (wrap k)
     node-wraps r s x y at mid p q z w h g (okRun t) good said = (

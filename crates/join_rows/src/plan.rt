@@ -1,6 +1,6 @@
 // The rows that make the join of two tables.
 use crate::walk::node;
-ghost use Rattle.join_rows.specs.Plans.{Planning, Plans};
+ghost use Rattle.join_rows.specs.Plans.{PlanAsks, PlanGives};
 
 // A clash and its entry in each tree, or the number of the join's rows.
 pub struct Planned {
@@ -22,8 +22,8 @@ pub fn plan<'a>(
     offsets: &[usize],
     plan: &mut [usize],
 ) -> Planned
-    requires { ⌜ Planning first (now types) (now counts) (now lengths) (now values) (now labels) (now starts) (now offsets) (now plan) ⌝ }
-    ensures { λ r. ⌜ Plans first (now (types .entry)) (now (counts .entry)) (now (lengths .entry)) (now (values .entry)) (now (labels .entry)) (now (plan .exit)) r ⌝ }
+    requires { ⌜ PlanAsks first (now types) (now counts) (now lengths) (now values) (now labels) (now starts) (now offsets) (now plan) ⌝ }
+    ensures { λ r. ⌜ PlanGives first (now (types .entry)) (now (counts .entry)) (now (lengths .entry)) (now (values .entry)) (now (labels .entry)) (now (plan .exit)) r ⌝ }
 {
     let end = plan.len();
     let i = first - 1;

@@ -7,8 +7,8 @@ ghost use mathlib.Core.Path.{_≡_};
 ghost use mathlib.Core.Bool.{true, false};
 ghost use Prim.Native.Nat.{_≤_, _<_};
 ghost use lib.ListN.{length};
-ghost use Rattle.columns.specs.Columns.{Ready};
-ghost use Rattle.join_rows.specs.Walks.{earlierOf, Put, NodeWalk, RunWalk};
+ghost use Rattle.columns.specs.Columns.{Walkable};
+ghost use Rattle.join_rows.specs.Walks.{earlierOf, PutGives, NodeGives, RunGives};
 
 // A clash and its two rows, or the first cell of the plan that is written.
 pub struct Walked {
@@ -43,7 +43,7 @@ fn unclashed(at: usize) -> Walked
 // Writes the rows from `from` up to `to` in front of cell `at`, as far as there is room, and answers the first cell written.
 fn put(plan: &mut [usize], at: usize, from: usize, to: usize) -> usize
     requires { ⌜ at ≤ length (now plan) ⌝ }
-    ensures { λ r. ⌜ Put from to at (now (plan .entry)) (now (plan .exit)) r ⌝ }
+    ensures { λ r. ⌜ PutGives from to at (now (plan .entry)) (now (plan .exit)) r ⌝ }
 {
     let mut low = at;
     let mut row = to;
@@ -87,8 +87,8 @@ pub(crate) fn node<'a>(
     j: usize,
     at: usize,
 ) -> Walked
-    requires { ⌜ Ready (now types) (now counts) (now lengths) (now values) (now labels) (now starts) (now offsets) × (i < length (now types)) × (j < length (now types)) × (at ≤ length (now plan)) ⌝ }
-    ensures { λ r. ⌜ NodeWalk (now (types .entry)) (now (counts .entry)) (now (lengths .entry)) (now (values .entry)) (now (labels .entry)) (now (starts .entry)) (now (offsets .entry)) (now (plan .entry)) (now (plan .exit)) i j at r ⌝ }
+    requires { ⌜ Walkable (now types) (now counts) (now lengths) (now values) (now labels) (now starts) (now offsets) × (i < length (now types)) × (j < length (now types)) × (at ≤ length (now plan)) ⌝ }
+    ensures { λ r. ⌜ NodeGives (now (types .entry)) (now (counts .entry)) (now (lengths .entry)) (now (values .entry)) (now (labels .entry)) (now (starts .entry)) (now (offsets .entry)) (now (plan .entry)) (now (plan .exit)) i j at r ⌝ }
 {
     let meeting = meet(
         types,
@@ -144,8 +144,8 @@ fn run<'a>(
     count: usize,
     at: usize,
 ) -> Walked
-    requires { ⌜ Ready (now types) (now counts) (now lengths) (now values) (now labels) (now starts) (now offsets) × (e ≤ length (now types)) × (f ≤ length (now types)) × (at ≤ length (now plan)) ⌝ }
-    ensures { λ r. ⌜ RunWalk (now (types .entry)) (now (counts .entry)) (now (lengths .entry)) (now (values .entry)) (now (labels .entry)) (now (starts .entry)) (now (offsets .entry)) (now (plan .entry)) (now (plan .exit)) e f count at r ⌝ }
+    requires { ⌜ Walkable (now types) (now counts) (now lengths) (now values) (now labels) (now starts) (now offsets) × (e ≤ length (now types)) × (f ≤ length (now types)) × (at ≤ length (now plan)) ⌝ }
+    ensures { λ r. ⌜ RunGives (now (types .entry)) (now (counts .entry)) (now (lengths .entry)) (now (values .entry)) (now (labels .entry)) (now (starts .entry)) (now (offsets .entry)) (now (plan .entry)) (now (plan .exit)) e f count at r ⌝ }
 {
     if none_left(count, e, f) {
         return unclashed(at);

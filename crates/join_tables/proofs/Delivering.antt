@@ -11,7 +11,7 @@ use Rattle.tables.specs.Records.{TreeTable}
 use Rattle.outcomes.specs.Refusals.{joinTooLarge}
 use Rattle.codec.specs.Writing.{slipOf}
 use Rattle.columns.specs.declared.gather.Gathered.{Gathered}
-use Rattle.columns.specs.Gathers.{cellOf, valuesOf, Gathers}
+use Rattle.columns.specs.Gathers.{cellOf, valuesOf, GatherGives}
 use Rattle.slips.specs.declared.answer.Answer.{Answer}
 use Rattle.slips.specs.Answers.{refused}
 use Rattle.outcomes.specs.Outcome.{Leaves}
@@ -31,7 +31,7 @@ module _ (H : List ℕ → List ℕ) (n : Node) (out : List ℕ) where
 -- the columns gathered are what the plan names
 pub gathered-as :
     {plan types counts lengths values offsets outTypes outCounts outLengths outValues : List ℕ} {g : Gathered} {n : Node}
-    → Gathers plan types counts lengths values offsets outTypes outCounts outLengths outValues g
+    → GatherGives plan types counts lengths values offsets outTypes outCounts outLengths outValues g
     → TreeTable n (map (cellOf types) plan) (map (cellOf counts) plan) (map (cellOf lengths) plan) (valuesOf plan lengths values offsets)
     → TreeTable n (take (g .rows) outTypes) (take (g .rows) outCounts) (take (g .rows) outLengths) (take (g .used) outValues)
 gathered-as s t = rw (s .types-are, s .counts-are, s .lengths-are, s .values-are) t

@@ -14,7 +14,7 @@ use Rattle.outcomes.specs.Refusals.{joinTooLarge}
 use Rattle.tables.specs.Tables.{sum}
 use Rattle.codec.specs.Writing.{slipOf}
 use Rattle.sha2.specs.Sha256 as Sha256
-use Rattle.join_rows.specs.Plans.{Two}
+use Rattle.join_rows.specs.Plans.{TwoTables}
 use Rattle.columns.specs.Gathers.{cellOf, valuesOf, Gatherable}
 use Rattle.slips.specs.declared.answer.Answer.{Answer}
 use Rattle.slips.specs.Answers.{refused}
@@ -32,29 +32,29 @@ DeliverGives types counts lengths values l out r left =
     (n : Node) → TreeTable n types counts lengths values → l ≡ label Sha256.label n → Leaves (fitted Sha256.label n out) r left
 
 -- the table that a plan names is that of a tree, and no larger than both tables
-pub record GatherAsks (plan types counts lengths values offsets : List ℕ) : Type 0 where
+pub record HandOutAsks (plan types counts lengths values offsets : List ℕ) : Type 0 where
   pub plan-is : Gatherable plan types counts lengths values offsets
   pub sized : sum (map (cellOf lengths) plan) ≤ length values
   pub most : length values ≤ 2 * maxBytes
   pub tree : Node
   pub table : TreeTable tree (map (cellOf types) plan) (map (cellOf counts) plan) (map (cellOf lengths) plan) (valuesOf plan lengths values offsets)
 
-abbrev pub GatherGives : List ℕ → List ℕ → List ℕ → List ℕ → List ℕ → List ℕ → List ℕ → List ℕ → Answer → List ℕ → Type 0
-GatherGives plan types counts lengths values offsets =
+abbrev pub HandOutGives : List ℕ → List ℕ → List ℕ → List ℕ → List ℕ → List ℕ → List ℕ → List ℕ → Answer → List ℕ → Type 0
+HandOutGives plan types counts lengths values offsets =
     DeliverGives (map (cellOf types) plan) (map (cellOf counts) plan) (map (cellOf lengths) plan) (valuesOf plan lengths values offsets)
 
 -- columns that hold two trees
 pub record MergeAsks (first : ℕ) (types counts lengths values labels : List ℕ) : Type 0 where
   pub a : Node
   pub b : Node
-  pub two : Two Sha256.label a b first types counts lengths values labels
+  pub two : TwoTables Sha256.label a b first types counts lengths values labels
   pub most : length values ≤ 2 * maxBytes
 
 -- whatever trees with one root label the columns hold, the outcome is that of their join
 abbrev pub MergeGives : ℕ → List ℕ → List ℕ → List ℕ → List ℕ → List ℕ → List ℕ → List ℕ → Answer → List ℕ → Type 0
 MergeGives first root types counts lengths values labels out r left =
     (a b : Node)
-    → Two Sha256.label a b first types counts lengths values labels
+    → TwoTables Sha256.label a b first types counts lengths values labels
     → Alike Sha256.label a b
     → label Sha256.label a ≡ root
     → Leaves (joinedOf Sha256.label a b out (join Sha256.label a b)) r left

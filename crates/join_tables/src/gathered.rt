@@ -10,9 +10,9 @@ use tables::limits::Slip;
 ghost use Prim.Native.Nat.{_*_, _≤_};
 ghost use lib.ListN.{length};
 ghost use Rattle.tables.specs.Areas.{smallBytes, smallNodes};
-ghost use Rattle.columns.specs.Gathers.{Gathering};
+ghost use Rattle.columns.specs.Gathers.{GatherAsks};
 ghost use Rattle.send.specs.Contracts.{SendTreeAsks};
-ghost use Rattle.join_tables.specs.Contracts.{DeliverGives, GatherAsks, GatherGives};
+ghost use Rattle.join_tables.specs.Contracts.{DeliverGives, HandOutAsks, HandOutGives};
 
 // "15, 11", or the slip.
 fn deliver(
@@ -48,8 +48,8 @@ fn gather_in(
     values2: &mut [u8],
     out: &mut [u8],
 ) -> Answer
-    requires { ⌜ GatherAsks (now plan) (now types) (now counts) (now lengths) (now values) (now offsets) × Gathering (now plan) (now types) (now counts) (now lengths) (now values) (now offsets) (now types2) (now counts2) (now lengths2) (now values2) ⌝ }
-    ensures { λ r. ⌜ GatherGives (now (plan .entry)) (now (types .entry)) (now (counts .entry)) (now (lengths .entry)) (now (values .entry)) (now (offsets .entry)) label (now (out .entry)) r (now (out .exit)) ⌝ }
+    requires { ⌜ HandOutAsks (now plan) (now types) (now counts) (now lengths) (now values) (now offsets) × GatherAsks (now plan) (now types) (now counts) (now lengths) (now values) (now offsets) (now types2) (now counts2) (now lengths2) (now values2) ⌝ }
+    ensures { λ r. ⌜ HandOutGives (now (plan .entry)) (now (types .entry)) (now (counts .entry)) (now (lengths .entry)) (now (values .entry)) (now (offsets .entry)) label (now (out .entry)) r (now (out .exit)) ⌝ }
 {
     let g = gather::gather(
         plan,
@@ -86,8 +86,8 @@ fn small(
     label: [u8; Slip::LABEL_BYTES],
     out: &mut [u8],
 ) -> Answer
-    requires { ⌜ GatherAsks (now plan) (now types) (now counts) (now lengths) (now values) (now offsets) × (length (now plan) ≤ 2 * smallNodes) × (length (now values) ≤ 2 * smallBytes) ⌝ }
-    ensures { λ r. ⌜ GatherGives (now (plan .entry)) (now (types .entry)) (now (counts .entry)) (now (lengths .entry)) (now (values .entry)) (now (offsets .entry)) label (now (out .entry)) r (now (out .exit)) ⌝ }
+    requires { ⌜ HandOutAsks (now plan) (now types) (now counts) (now lengths) (now values) (now offsets) × (length (now plan) ≤ 2 * smallNodes) × (length (now values) ≤ 2 * smallBytes) ⌝ }
+    ensures { λ r. ⌜ HandOutGives (now (plan .entry)) (now (types .entry)) (now (counts .entry)) (now (lengths .entry)) (now (values .entry)) (now (offsets .entry)) label (now (out .entry)) r (now (out .exit)) ⌝ }
 {
     let mut types2 = [0u16; SmallPair::ROWS];
     let mut counts2 = [0u16; SmallPair::ROWS];
@@ -120,8 +120,8 @@ fn large(
     label: [u8; Slip::LABEL_BYTES],
     out: &mut [u8],
 ) -> Answer
-    requires { ⌜ GatherAsks (now plan) (now types) (now counts) (now lengths) (now values) (now offsets) ⌝ }
-    ensures { λ r. ⌜ GatherGives (now (plan .entry)) (now (types .entry)) (now (counts .entry)) (now (lengths .entry)) (now (values .entry)) (now (offsets .entry)) label (now (out .entry)) r (now (out .exit)) ⌝ }
+    requires { ⌜ HandOutAsks (now plan) (now types) (now counts) (now lengths) (now values) (now offsets) ⌝ }
+    ensures { λ r. ⌜ HandOutGives (now (plan .entry)) (now (types .entry)) (now (counts .entry)) (now (lengths .entry)) (now (values .entry)) (now (offsets .entry)) label (now (out .entry)) r (now (out .exit)) ⌝ }
 {
     let mut types2 = [0u16; Slip::MAX_NODES];
     let mut counts2 = [0u16; Slip::MAX_NODES];
@@ -154,8 +154,8 @@ pub fn hand_out(
     label: [u8; Slip::LABEL_BYTES],
     out: &mut [u8],
 ) -> Answer
-    requires { ⌜ GatherAsks (now plan) (now types) (now counts) (now lengths) (now values) (now offsets) ⌝ }
-    ensures { λ r. ⌜ GatherGives (now (plan .entry)) (now (types .entry)) (now (counts .entry)) (now (lengths .entry)) (now (values .entry)) (now (offsets .entry)) label (now (out .entry)) r (now (out .exit)) ⌝ }
+    requires { ⌜ HandOutAsks (now plan) (now types) (now counts) (now lengths) (now values) (now offsets) ⌝ }
+    ensures { λ r. ⌜ HandOutGives (now (plan .entry)) (now (types .entry)) (now (counts .entry)) (now (lengths .entry)) (now (values .entry)) (now (offsets .entry)) label (now (out .entry)) r (now (out .exit)) ⌝ }
 {
     if plan.len() <= SmallPair::ROWS {
         if values.len() <= SmallPair::BYTES {

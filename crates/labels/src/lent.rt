@@ -1,4 +1,4 @@
-// The running digest lent. Each function over a `&mut` to a struct is proved by hand, so there are two: `put`, and `grown`, which
+// The running digest lent. Each function over a `&mut` to a struct is proved by hand, so there are two: `put`, and `absorbed`, which
 // lends and serves every other caller.
 use sha2::digest::Digest;
 ghost use Prim.Native.Nat.{_+_, _^_, _<_};
@@ -16,7 +16,7 @@ pub fn put(d: &mut Digest, part: &[u8])
 }
 
 // The digest of the text so far and the part, as `absorb` gives it.
-pub fn grown(d: Digest, part: &[u8]) -> Digest
+pub fn absorbed(d: Digest, part: &[u8]) -> Digest
     requires { ⌜ d .len + length (now part) < 2 ^ 61 ⌝ }
     ensures { λ r. ⌜ Grows d (now (part .entry)) r ⌝ }
 {

@@ -12,7 +12,7 @@ pub fn label(text: &[u8]) -> [u8; 32]
     requires { ⌜ length (now text) < 2 ^ 61 ⌝ }
     ensures { λ r. ⌜ r ≡ Sha256.label (now (text .entry)) ⌝ }
 {
-    lent::grown(Digest::new(), text).finish()
+    lent::absorbed(Digest::new(), text).finish()
 }
 
 // "cutting the prelabel elsewhere gives the same label": the parts' label is that of the text that they make end to end.
@@ -20,5 +20,5 @@ pub fn of_parts(first: &[u8], second: &[u8]) -> [u8; 32]
     requires { ⌜ length (now first) + length (now second) < 2 ^ 61 ⌝ }
     ensures { λ r. ⌜ r ≡ Sha256.label (now (first .entry) ++ now (second .entry)) ⌝ }
 {
-    lent::grown(lent::grown(Digest::new(), first), second).finish()
+    lent::absorbed(lent::absorbed(Digest::new(), first), second).finish()
 }

@@ -20,8 +20,8 @@ use Rattle.lists.specs.Lists.{Names}
 use Rattle.lists.specs.ListsLaws.{names-length}
 use Rattle.join_rows.specs.Faces.{noFace, faces}
 use Rattle.join_rows.specs.FacesLaws.{length-faces}
-use Rattle.columns.specs.Columns.{Surveyed}
-use Rattle.join_rows.specs.Plans.{Two, PlannedAs}
+use Rattle.columns.specs.Columns.{SurveyGives}
+use Rattle.join_rows.specs.Plans.{TwoTables, PlannedAs}
 use Rattle.columns.specs.Gathers.{cellOf, valuesOf}
 use Rattle.join_rows.specs.JoinTable.{planned-table, join-room, join-gathering}
 use Rattle.join_rows.specs.TwoLaws.{first-low, values-room}
@@ -29,7 +29,7 @@ use Rattle.slips.specs.declared.answer.Answer.{Answer}
 use Rattle.slips.specs.Answers.{refused}
 use Rattle.outcomes.specs.Outcome.{Leaves}
 use Rattle.join_tables.specs.Joined.{clashed, joinedOf}
-use Rattle.join_tables.specs.Contracts.{fitted, GatherAsks, MergeAsks}
+use Rattle.join_tables.specs.Contracts.{fitted, HandOutAsks, MergeAsks}
 
 -- the cells that name the join's rows
 abbrev pub named : List ℕ → Planned → List ℕ
@@ -76,15 +76,15 @@ few-rows H a b c out h e = rw (le-ltb maxNodes (size c) h) e
 
 -- two trees have no more rows than two slips
 pub two-few : {H : List ℕ → List ℕ} {a b : Node} {first : ℕ} {types counts lengths values labels : List ℕ}
-    → Two H a b first types counts lengths values labels → length types ≤ 2 * maxNodes
+    → TwoTables H a b first types counts lengths values labels → length types ≤ 2 * maxNodes
 two-few {H} {a} {b} {first} {types} {counts} {lengths} {values} {labels} h =
     let low = first-low H a b first types counts lengths values labels h in
     omega (arith, low, h .one .table .form .columns .few, h .two .table .form .columns .few, length-take-le first types (omega (arith, low)), length-drop first types)
 
-module _ {first : ℕ} {types counts lengths values labels starts offsets cells : List ℕ} {p : Planned} (g : Surveyed counts lengths starts offsets) (few : p .rows ≤ maxNodes)
+module _ {first : ℕ} {types counts lengths values labels starts offsets cells : List ℕ} {p : Planned} (g : SurveyGives counts lengths starts offsets) (few : p .rows ≤ maxNodes)
   where
     -- what the plan names is the join's table
-    pub plan-table : {a b : Node} → Two Sha256.label a b first types counts lengths values labels
+    pub plan-table : {a b : Node} → TwoTables Sha256.label a b first types counts lengths values labels
         → (x : Unclashed Sha256.label a b cells p (join Sha256.label a b))
         → TreeTable (x .tree) (map (cellOf types) (named cells p)) (map (cellOf counts) (named cells p)) (map (cellOf lengths) (named cells p)) (valuesOf (named cells p) lengths values offsets)
     plan-table {a} {b} h x =
@@ -93,7 +93,7 @@ module _ {first : ℕ} {types counts lengths values labels starts offsets cells 
 
     -- and can be gathered and handed out
     pub plan-asks : (m : MergeAsks first types counts lengths values labels) → Unclashed Sha256.label (m .a) (m .b) cells p (join Sha256.label (m .a) (m .b))
-        → GatherAsks (named cells p) types counts lengths values offsets
+        → HandOutAsks (named cells p) types counts lengths values offsets
     plan-asks m x =
         let h = m .two in
         record {

@@ -9,11 +9,11 @@ use Rattle.slips.specs.declared.answer.Answer.{Answer}
 use Rattle.pack.specs.Pack.{rowsOf}
 
 -- a table of the form whose slip has room
-pub record Roomy (t : Table) (room : ℕ) : Type 0 where
+pub record Fitting (t : Table) (room : ℕ) : Type 0 where
   pub form : Formed t
   pub fits : length (slipOf (rowsOf t)) ≤ room
 
 -- the packer's answer, and where it accepts what it has found
-pub record Answered (t : Table) (room : ℕ) (a r : Answer) : Type 0 where
+pub record AnswerGives (t : Table) (room : ℕ) (a r : Answer) : Type 0 where
   pub answer : r ≡ a
-  pub roomy : r .number ≡ accepted → Roomy t room
+  pub roomy : r .number ≡ accepted → Fitting t room

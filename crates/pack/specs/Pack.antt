@@ -35,8 +35,8 @@ faultTests t =
     ∷ []
 
 -- the refusal and its place
-unfoldable pub faultOf : Table → Fault
-faultOf t = chain (faultTests t) (record { number = accepted; place = 0 })
+unfoldable pub tableFault : Table → Fault
+tableFault t = chain (faultTests t) (record { number = accepted; place = 0 })
 
 -- a refusal of the table, or the answer behind it
 abbrev pub tabled : Fault → Answer → Answer
@@ -59,7 +59,7 @@ module _ (H : List ℕ → List ℕ) (composed : List ℕ → Bool) where
   -- the packer's answer
   unfoldable pub answerOf : Table → ℕ → Answer
   answerOf t room =
-      tabled (faultOf t) (chain (sizeTests t) (judgedAs (rowsOf t) room (verdict H composed (rowsOf t))))
+      tabled (tableFault t) (chain (sizeTests t) (judgedAs (rowsOf t) room (verdict H composed (rowsOf t))))
 
   -- the packing of a table into an output: the slip where it is accepted, and nothing else is written
   unfoldable pub packOf : Table → List ℕ → Output Answer

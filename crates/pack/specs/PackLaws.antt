@@ -23,43 +23,43 @@ use Rattle.engine.specs.declared.judge.Judged.{Judged}
 use Rattle.slips.specs.declared.answer.Answer.{Answer}
 use Rattle.slips.specs.Answers.{refused, taken}
 use Rattle.slips.specs.Verdicts.{Refuses, verdict-refuses}
-use Rattle.pack.specs.Pack.{rowsOf, badRow, faultOf, judgedAs, answerOf, packOf}
+use Rattle.pack.specs.Pack.{rowsOf, badRow, tableFault, judgedAs, answerOf, packOf}
 use Rattle.outcomes.specs.Outcome.{over, Leaves}
 
 module _ (t : Table) where
-  pub fault-columns : columnsFit (t .types) (t .counts) (t .lengths) ≡ false → record { number = badTable; place = 0 } ≡ faultOf t
-  unfolding faultOf
+  pub fault-columns : columnsFit (t .types) (t .counts) (t .lengths) ≡ false → record { number = badTable; place = 0 } ≡ tableFault t
+  unfolding tableFault
   fault-columns h = sym (rw h)
 
   module _ (p : columnsFit (t .types) (t .counts) (t .lengths) ≡ true) where
-    pub fault-empty : length (t .types) ≡ 0 → record { number = noNodes; place = 0 } ≡ faultOf t
-    unfolding faultOf
+    pub fault-empty : length (t .types) ≡ 0 → record { number = noNodes; place = 0 } ≡ tableFault t
+    unfolding tableFault
     fault-empty h = sym (rw (p, eq-eqb (length (t .types)) 0 h))
 
     module _ (q : length (t .types) ≡ 0 → ⊥) where
-      pub fault-row : badRow t < length (t .types) → record { number = badTable; place = badRow t } ≡ faultOf t
-      unfolding faultOf
+      pub fault-row : badRow t < length (t .types) → record { number = badTable; place = badRow t } ≡ tableFault t
+      unfolding tableFault
       fault-row h = sym (rw (p, ne-eqb (length (t .types)) 0 q, lt-ltb (badRow t) (length (t .types)) h))
 
       module _ (r : length (t .types) ≤ badRow t) where
-        pub fault-area : (length (t .values) ≡ sum (t .lengths) → ⊥) → record { number = badTable; place = 0 } ≡ faultOf t
-        unfolding faultOf
+        pub fault-area : (length (t .values) ≡ sum (t .lengths) → ⊥) → record { number = badTable; place = 0 } ≡ tableFault t
+        unfolding tableFault
         fault-area h =
             sym
             (rw
             (p, ne-eqb (length (t .types)) 0 q, le-ltb (badRow t) (length (t .types)) r, ne-eqb (length (t .values)) (sum (t .lengths)) h))
 
-        pub fault-free : length (t .values) ≡ sum (t .lengths) → record { number = accepted; place = 0 } ≡ faultOf t
-        unfolding faultOf
+        pub fault-free : length (t .values) ≡ sum (t .lengths) → record { number = accepted; place = 0 } ≡ tableFault t
+        unfolding tableFault
         fault-free h =
             sym
             (rw
             (p, ne-eqb (length (t .types)) 0 q, le-ltb (badRow t) (length (t .types)) r, eq-eqb (length (t .values)) (sum (t .lengths)) h))
 
 -- 16 and a table that doesn't fit, 4 and no rows, or no refusal and a table that fits
-pub fault-cases : {C : Type 0} (t : Table) → (faultOf t .number ≡ badTable → tableFits t ≡ false → C)
-    → (faultOf t .number ≡ noNodes → length (t .types) ≡ 0 → C) → (faultOf t .number ≡ accepted → tableFits t ≡ true → C) → C
-unfolding faultOf tableFits
+pub fault-cases : {C : Type 0} (t : Table) → (tableFault t .number ≡ badTable → tableFits t ≡ false → C)
+    → (tableFault t .number ≡ noNodes → length (t .types) ≡ 0 → C) → (tableFault t .number ≡ accepted → tableFits t ≡ true → C) → C
+unfolding tableFault tableFits
 fault-cases {C} t f g h =
     go (columnsFit (t .types) (t .counts) (t .lengths)) refl (eqb (length (t .types)) 0) refl (rowBad t) refl (areaFits t) refl
   where
@@ -72,14 +72,14 @@ fault-cases {C} t f g h =
     go true c false z false r true a = h (rw (c, z, r, a)) (rw (c, r, a))
 
 -- "A table that number 16 would refuse": where there are rows it is one that doesn't fit, and no other
-pub refused-unfit : (t : Table) → faultOf t .number ≡ badTable → tableFits t ≡ false
+pub refused-unfit : (t : Table) → tableFault t .number ≡ badTable → tableFits t ≡ false
 refused-unfit t e = fault-cases t (λ n u. u) (λ n u. absurd (omega (arith, e, n))) (λ n u. absurd (omega (arith, e, n)))
 
-pub unfit-refused : (t : Table) → (length (t .types) ≡ 0 → ⊥) → tableFits t ≡ false → faultOf t .number ≡ badTable
+pub unfit-refused : (t : Table) → (length (t .types) ≡ 0 → ⊥) → tableFits t ≡ false → tableFault t .number ≡ badTable
 unfit-refused t some e = fault-cases t (λ n u. n) (λ n u. absurd (some u)) (λ n u. absurd (true≢false (sym u ∙ e)))
 
 -- a table that is not refused has the form
-pub fault-told : (t : Table) → faultOf t .number ≡ accepted → Formed t
+pub fault-told : (t : Table) → tableFault t .number ≡ accepted → Formed t
 fault-told t e =
     fault-cases t (λ n u. absurd (omega (arith, e, n))) (λ n u. absurd (omega (arith, e, n))) (λ n u. table-told t u)
 
@@ -129,14 +129,14 @@ judged-as es room (faulty k i) p = rw (ne-eqb k accepted p)
 judged-as es room (left st b) p = refl
 
 module _ (H : List ℕ → List ℕ) (composed : List ℕ → Bool) (t : Table) (room : ℕ) where
-  pub answer-faulty : (faultOf t .number ≡ accepted → ⊥) → refused (faultOf t .number) (faultOf t .place) ≡ answerOf H composed t room
+  pub answer-faulty : (tableFault t .number ≡ accepted → ⊥) → refused (tableFault t .number) (tableFault t .place) ≡ answerOf H composed t room
   unfolding answerOf
-  answer-faulty h = sym (rw (ne-eqb (faultOf t .number) accepted h))
+  answer-faulty h = sym (rw (ne-eqb (tableFault t .number) accepted h))
 
-  module _ (p : faultOf t .number ≡ accepted) where
+  module _ (p : tableFault t .number ≡ accepted) where
     pub answer-long : maxBytes < length (slipOf (rowsOf t)) → refused tooLong 0 ≡ answerOf H composed t room
     unfolding answerOf
-    answer-long h = sym (rw (eq-eqb (faultOf t .number) accepted p, lt-ltb maxBytes (length (slipOf (rowsOf t))) h))
+    answer-long h = sym (rw (eq-eqb (tableFault t .number) accepted p, lt-ltb maxBytes (length (slipOf (rowsOf t))) h))
 
     module _ (q : length (slipOf (rowsOf t)) ≤ maxBytes) {j : Judged} (e : j ≡ told (verdict H composed (rowsOf t))) where
       by : judgedBy (rowsOf t) room j ≡ answerOf H composed t room
@@ -144,7 +144,7 @@ module _ (H : List ℕ → List ℕ) (composed : List ℕ → Bool) (t : Table) 
       by =
           ap (judgedBy (rowsOf t) room) e
           ∙ judged-as (rowsOf t) room (verdict H composed (rowsOf t)) (verdict-refuses H composed (rowsOf t))
-          ∙ sym (rw (eq-eqb (faultOf t .number) accepted p, le-ltb maxBytes (length (slipOf (rowsOf t))) q))
+          ∙ sym (rw (eq-eqb (tableFault t .number) accepted p, le-ltb maxBytes (length (slipOf (rowsOf t))) q))
 
       pub answer-entry : (j .number ≡ accepted → ⊥) → refused (j .number) (j .place) ≡ answerOf H composed t room
       unfolding judgedBy
@@ -175,18 +175,18 @@ number-of is e = sym (ap (λ (x : Answer). x .number) is) ∙ e
 
 -- an answer is the form's refusal, 1, or what the entries are judged as
 pub answer-cases : (H : List ℕ → List ℕ) (composed : List ℕ → Bool) {C : Type 0} (t : Table) (room : ℕ)
-    → ((faultOf t .number ≡ accepted → ⊥) → answerOf H composed t room ≡ refused (faultOf t .number) (faultOf t .place) → C)
+    → ((tableFault t .number ≡ accepted → ⊥) → answerOf H composed t room ≡ refused (tableFault t .number) (tableFault t .place) → C)
     → (Formed t → answerOf H composed t room ≡ refused tooLong 0 → C)
     → (Formed t → length (slipOf (rowsOf t)) ≤ maxBytes → answerOf H composed t room ≡ judgedAs (rowsOf t) room (verdict H composed (rowsOf t)) → C)
     → C
 unfolding answerOf
-answer-cases H composed {C} t room f g h = go (eqb (faultOf t .number) accepted) refl (ltb maxBytes (length (slipOf (rowsOf t)))) refl
+answer-cases H composed {C} t room f g h = go (eqb (tableFault t .number) accepted) refl (ltb maxBytes (length (slipOf (rowsOf t)))) refl
   where
-    go : (free : Bool) → eqb (faultOf t .number) accepted ≡ free → (long : Bool) → ltb maxBytes (length (slipOf (rowsOf t))) ≡ long → C
-    go false e long l = f (eqb-false (faultOf t .number) accepted e) (rw e)
-    go true e true l = g (fault-told t (eqb-true (faultOf t .number) accepted e)) (rw (e, l))
+    go : (free : Bool) → eqb (tableFault t .number) accepted ≡ free → (long : Bool) → ltb maxBytes (length (slipOf (rowsOf t))) ≡ long → C
+    go false e long l = f (eqb-false (tableFault t .number) accepted e) (rw e)
+    go true e true l = g (fault-told t (eqb-true (tableFault t .number) accepted e)) (rw (e, l))
     go true e false l =
-        h (fault-told t (eqb-true (faultOf t .number) accepted e)) (ltb-false maxBytes (length (slipOf (rowsOf t))) l) (rw (e, l))
+        h (fault-told t (eqb-true (tableFault t .number) accepted e)) (ltb-false maxBytes (length (slipOf (rowsOf t))) l) (rw (e, l))
 
 -- entries that are not refused are 9, 11 or taken
 pub judged-cases : {C : Type 0} (es : List Entry) (room : ℕ) (st : List Tag) (b : ℕ)

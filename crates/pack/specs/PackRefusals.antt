@@ -17,11 +17,11 @@ use Rattle.codec.specs.Writing.{slipOf}
 use Rattle.slips.specs.declared.answer.Answer.{Answer}
 use Rattle.slips.specs.Answers.{refused}
 use Rattle.slips.specs.SlipRefusals.{none-left, scattered-tags}
-use Rattle.pack.specs.Pack.{rowsOf, faultOf, judgedAs, answerOf}
+use Rattle.pack.specs.Pack.{rowsOf, tableFault, judgedAs, answerOf}
 use Rattle.pack.specs.PackLaws.{fault-cases, refused-unfit, unfit-refused, rows-of-formed, answer-cases, judged-cases, number-of, answer-faulty}
 
 -- the form's refusals are 16 and 4
-other-fault : (t : Table) (k : ℕ) → childrenMissing ≤ k → k ≤ notOneTree → faultOf t .number ≡ k → ⊥
+other-fault : (t : Table) (k : ℕ) → childrenMissing ≤ k → k ≤ notOneTree → tableFault t .number ≡ k → ⊥
 other-fault t k low high e = fault-cases t (λ n u. omega (arith, e, n)) (λ n u. omega (arith, e, n)) (λ n u. omega (arith, e, n))
 
 module _ (H : List ℕ → List ℕ) (composed : List ℕ → Bool) where
@@ -88,10 +88,10 @@ module _ (H : List ℕ → List ℕ) (composed : List ℕ → Bool) where
         (λ f short is. judged-scattered (rowsOf t) room (rows-of-formed t f) (verdict H composed (rowsOf t)) refl (number-of is e))
 
     -- and only then, where the table has the form and its slip is not too long
-    module _ (free : faultOf t .number ≡ accepted) (short : length (slipOf (rowsOf t)) ≤ maxBytes) where
+    module _ (free : tableFault t .number ≡ accepted) (short : length (slipOf (rowsOf t)) ≤ maxBytes) where
       judged-is : answerOf H composed t room ≡ judgedAs (rowsOf t) room (verdict H composed (rowsOf t))
       unfolding answerOf
-      judged-is = rw (eq-eqb (faultOf t .number) accepted free, le-ltb maxBytes (length (slipOf (rowsOf t))) short)
+      judged-is = rw (eq-eqb (tableFault t .number) accepted free, le-ltb maxBytes (length (slipOf (rowsOf t))) short)
 
       pub broken-packs : (k i : ℕ) → Broken H composed (rowsOf t) k i → answerOf H composed t room ≡ refused k i
       unfolding judgedAs

@@ -30,7 +30,7 @@ use Rattle.slips.specs.Verdicts.{Refuses, verdict-refuses}
 use Rattle.tables.specs.Cells.{typeCell, countCell, lengthCell, valueCell, valuesOf}
 use Rattle.unpack.specs.Unpack.{tableOf}
 use Rattle.unpack.specs.CellsLaws.{table-back}
-use Rattle.pack.specs.Pack.{rowsOf, badRow, faultOf, judgedAs, answerOf, packOf}
+use Rattle.pack.specs.Pack.{rowsOf, badRow, tableFault, judgedAs, answerOf, packOf}
 use Rattle.pack.specs.PackLaws.{fault-columns, fault-free, rows-of-formed, answer-cases, judged-cases, number-of}
 
 -- the row of a formed entry has the form, and is that entry's
@@ -79,10 +79,10 @@ columns-of es =
     )
 
 -- the table of entries of the form: 16 where they are too many, else not refused
-table-full : (es : List Entry) → maxNodes < length es → faultOf (tableOf es) ≡ record { number = badTable; place = 0 }
+table-full : (es : List Entry) → maxNodes < length es → tableFault (tableOf es) ≡ record { number = badTable; place = 0 }
 table-full es many = sym (fault-columns (tableOf es) (columns-of es ∙ lt-leb (length es) maxNodes many))
 
-table-free : (es : List Entry) → all formed es ≡ true → 1 ≤ length es → length es ≤ maxNodes → faultOf (tableOf es) ≡ record { number = accepted; place = 0 }
+table-free : (es : List Entry) → all formed es ≡ true → 1 ≤ length es → length es ≤ maxNodes → tableFault (tableOf es) ≡ record { number = accepted; place = 0 }
 table-free es p some few =
     let ts : length (map typeCell es) ≡ length es = length-map es typeCell in
     let bad : length (map typeCell es) ≤ badRow (tableOf es) = omega (arith, rows-fit 0 es p) in

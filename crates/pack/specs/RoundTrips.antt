@@ -110,7 +110,7 @@ module _ (H : List ℕ → List ℕ) (composed : List ℕ → Bool) where
   slip-count : (s : List ℕ) (n : Node) → SlipOf H composed s n → countOf s ≡ length (rows n)
   slip-count s n x =
       let few : length (rows n) ≤ maxNodes = omega (arith, length-rows n, x .few) in
-      subst (λ (w : List ℕ). Reads w (length (rows n)) (rows n)) (sym (x .is)) (slip-reads (rows n) (x .proper) few) .countIs
+      subst (λ (w : List ℕ). Reads w (length (rows n)) (rows n)) (sym (x .is)) (slip-reads (rows n) (x .proper) few) .count-is
 
   -- what the unpacker leaves of an accepted slip: in the first rows, as many as the slip names, stands the table of its tree
   pub unpacked-table : (s : List ℕ) → Below 256 s → (b : Table) → unpackOf H composed s b .answer .number ≡ accepted

@@ -18,8 +18,8 @@ ghost use Rattle.trees.specs.Rows.{verdict};
 ghost use Rattle.tables.specs.Tables.{table, sum, Formed};
 ghost use Rattle.engine.specs.Engine.{told};
 ghost use Rattle.outcomes.specs.Outcome.{Leaves};
-ghost use Rattle.pack.specs.Contracts.{Answered};
-ghost use Rattle.pack.specs.Pack.{faultOf, rowsOf, answerOf, packOf};
+ghost use Rattle.pack.specs.Contracts.{AnswerGives};
+ghost use Rattle.pack.specs.Pack.{tableFault, rowsOf, answerOf, packOf};
 
 // The refusal of a table that has not the form, and its place; or 0.
 pub struct Fault {
@@ -28,7 +28,7 @@ pub struct Fault {
 }
 
 fn fault_of(types: &[u16], counts: &[u16], lengths: &[u16], values: &[u8]) -> Fault
-    ensures { λ r. ⌜ r ≡ faultOf (table (now (types .entry)) (now (counts .entry)) (now (lengths .entry)) (now (values .entry))) ⌝ }
+    ensures { λ r. ⌜ r ≡ tableFault (table (now (types .entry)) (now (counts .entry)) (now (lengths .entry)) (now (values .entry))) ⌝ }
 {
     if !form::columns_fit(types, counts, lengths) {
         return Fault {
@@ -72,7 +72,7 @@ fn judged(types: &[u16], counts: &[u16], lengths: &[u16], values: &[u8]) -> Judg
 
 // The answer to a table for an output of so many bytes: every refusal is ruled out before a byte is written.
 fn answer_of(types: &[u16], counts: &[u16], lengths: &[u16], values: &[u8], room: usize) -> Answer
-    ensures { λ r. ⌜ Answered (table (now (types .entry)) (now (counts .entry)) (now (lengths .entry)) (now (values .entry))) room (answerOf Sha256.label composedText (table (now (types .entry)) (now (counts .entry)) (now (lengths .entry)) (now (values .entry))) room) r ⌝ }
+    ensures { λ r. ⌜ AnswerGives (table (now (types .entry)) (now (counts .entry)) (now (lengths .entry)) (now (values .entry))) room (answerOf Sha256.label composedText (table (now (types .entry)) (now (counts .entry)) (now (lengths .entry)) (now (values .entry))) room) r ⌝ }
 {
     let f = fault_of(types, counts, lengths, values);
     if f.number != Refusal::ACCEPTED {

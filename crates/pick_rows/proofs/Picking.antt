@@ -14,7 +14,7 @@ use Rattle.prune_rows.specs.Picked.{picked, rowBy, labelRows}
 use Rattle.prune_rows.specs.PickedLaws.{picked-step, picked-none, length-label-rows, label-rows-at}
 use Rattle.prune_rows.specs.TableLaws.{entries-at, row-fits}
 use Rattle.prune_rows.specs.Contracts.{Written}
-use Rattle.prune_rows.specs.Steps.{Puts, Turn, Pickable, Picks}
+use Rattle.prune_rows.specs.Steps.{PutAsks, TurnGives, PickAsks, PickGives}
 use Rattle.pick_rows.proofs.Putting.{written-none}
 
 -- the lengths up to row i, and one more
@@ -52,7 +52,7 @@ pub record Going (lengths : List ℕ) (es : List Entry) (xs : List (List ℕ)) (
       picked rowBy marks es xs
       ≡ so-far ++ picked rowBy (drop i marks) (drop i es) (drop i xs)
 
-module _ {types counts lengths values labels marks : List ℕ} (ready : Pickable types counts lengths values labels marks) where
+module _ {types counts lengths values labels marks : List ℕ} (ready : PickAsks types counts lengths values labels marks) where
   abbrev es : List Entry
   es = entries types counts lengths values
 
@@ -92,7 +92,7 @@ module _ {types counts lengths values labels marks : List ℕ} (ready : Pickable
         → length types ≤ length cs
         → length types ≤ length ls
         → sum lengths + labelBytes * length types ≤ length vs
-        → Puts (getD types i 0) (getD counts i 0) (getD lengths i 0) rows used v ts cs ls vs
+        → PutAsks (getD types i 0) (getD counts i 0) (getD lengths i 0) rows used v ts cs ls vs
     going-puts v v-is p q r room =
         record {
           types-room = omega (arith, g .rows-low);
@@ -119,7 +119,7 @@ module _ {types counts lengths values labels marks : List ℕ} (ready : Pickable
       pub going-more :
           {next rows′ used′ : ℕ} {ts′ cs′ ls′ vs′ : List ℕ}
           → next ≡ at + getD lengths i 0
-          → Turn (getD marks i 0) (getD lengths i 0) (entryOf (getD types i 0) (getD counts i 0) v) label rows used ts cs ls vs
+          → TurnGives (getD marks i 0) (getD lengths i 0) (entryOf (getD types i 0) (getD counts i 0) v) label rows used ts cs ls vs
           rows′ used′ ts′ cs′ ls′ vs′
           → Going lengths es xs marks (i + 1) next rows′ used′ ts′ cs′ ls′ vs′
       going-more n turn =
@@ -145,7 +145,7 @@ module _ {types counts lengths values labels marks : List ℕ} (ready : Pickable
       → length types ≤ i
       → i ≤ length types
       → Going lengths es xs marks i at rows used ts cs ls vs
-      → Picks types counts lengths values labels marks rows used ts cs ls vs
+      → PickGives types counts lengths values labels marks rows used ts cs ls vs
   going-all {i} {rows = rows} {used} {ts} {cs} {ls} {vs} h k g =
       let past : drop i es ≡ [] =
       drop-of-length-le es {i = i} (omega (arith, length-entries types counts lengths values (ready .form .columns .counts-long) (ready .form .columns .lengths-long))) in

@@ -14,7 +14,7 @@ use Rattle.tables.specs.TablesLaws.{sum-append}
 use Rattle.prune_rows.specs.TableLaws.{entries-append, formed-more}
 use Rattle.prune_rows.specs.Marks.{gone, kept}
 use Rattle.prune_rows.specs.Contracts.{Written}
-use Rattle.prune_rows.specs.Steps.{Puts, Adds, Added, Turn}
+use Rattle.prune_rows.specs.Steps.{PutAsks, Adds, PutGives, TurnGives}
 
 -- no row yet
 pub written-none : (ts cs ls vs : List ℕ) → Written 0 0 ts cs ls vs []
@@ -34,7 +34,7 @@ sum-one : (l : ℕ) → sum (l ∷ []) ≡ l
 unfolding sum
 sum-one l = omega arith
 
-module _ (t c l rows used : ℕ) (part ts cs ls vs last : List ℕ) (p : Puts t c l rows used part ts cs ls vs) (put : last ≡ paste vs used part (length part)) where
+module _ (t c l rows used : ℕ) (part ts cs ls vs last : List ℕ) (p : PutAsks t c l rows used part ts cs ls vs) (put : last ≡ paste vs used part (length part)) where
   bytes : take (used + l) last ≡ take used vs ++ part
   bytes =
       ap₂ take (ap (λ (k : ℕ). used + k) (sym (p .long))) put
@@ -74,7 +74,7 @@ past-one (suc (suc m)) p q = omega arith
 -- one row of the first table
 module _ (mark l rows used : ℕ) (label ts cs ls vs : List ℕ) where
   -- that is gone
-  pub turn-gone : (e : Entry) → mark ≡ gone → Turn mark l e label rows used ts cs ls vs rows used ts cs ls vs
+  pub turn-gone : (e : Entry) → mark ≡ gone → TurnGives mark l e label rows used ts cs ls vs rows used ts cs ls vs
   turn-gone e p =
       record {
         row = omega arith;
@@ -85,8 +85,8 @@ module _ (mark l rows used : ℕ) (label ts cs ls vs : List ℕ) where
   module _ (rows′ used′ : ℕ) (ts′ cs′ ls′ vs′ : List ℕ) where
     -- that is kept
     pub turn-kept : (e : Entry) → mark ≡ kept
-        → Added e l rows used ts cs ls vs rows′ used′ ts′ cs′ ls′ vs′
-        → Turn mark l e label rows used ts cs ls vs rows′ used′ ts′ cs′ ls′ vs′
+        → PutGives e l rows used ts cs ls vs rows′ used′ ts′ cs′ ls′ vs′
+        → TurnGives mark l e label rows used ts cs ls vs rows′ used′ ts′ cs′ ls′ vs′
     turn-kept e p a =
         record {
           row = omega (arith, a .row);
@@ -96,12 +96,12 @@ module _ (mark l rows used : ℕ) (label ts cs ls vs : List ℕ) where
 
     -- that is cut off
     pub turn-cut : (t c : ℕ) (v : List ℕ) → (mark ≡ gone → ⊥) → (mark ≡ kept → ⊥) → (1 < mark → 0 < c)
-        → Added (entryOf 0 0 label) labelBytes rows used ts cs ls vs rows′ used′ ts′ cs′ ls′ vs′
-        → Turn mark l (entryOf t c v) label rows used ts cs ls vs rows′ used′ ts′ cs′ ls′ vs′
+        → PutGives (entryOf 0 0 label) labelBytes rows used ts cs ls vs rows′ used′ ts′ cs′ ls′ vs′
+        → TurnGives mark l (entryOf t c v) label rows used ts cs ls vs rows′ used′ ts′ cs′ ls′ vs′
     turn-cut t c v p q inner a = go mark (past-one mark p q) c (inner (past-one mark p q))
       where
         go : (m : ℕ) → 1 < m → (c : ℕ) → 0 < c
-            → Turn m l (entryOf t c v) label rows used ts cs ls vs rows′ used′ ts′ cs′ ls′ vs′
+            → TurnGives m l (entryOf t c v) label rows used ts cs ls vs rows′ used′ ts′ cs′ ls′ vs′
         go (suc (suc m)) h (suc c) i =
             record {
               row = omega (arith, a .row);

@@ -7,8 +7,8 @@ ghost use Prim.Native.Nat.{_+_, _≤_, _<_};
 ghost use lib.ListN.{length};
 ghost use Rattle.trees.specs.Rules.{labelBytes};
 ghost use Rattle.tables.specs.Tables.{entryOf};
-ghost use Rattle.prune_rows.specs.Contracts.{Roomy};
-ghost use Rattle.prune_rows.specs.Steps.{Puts, Added, Turn, Pickable, Picks};
+ghost use Rattle.prune_rows.specs.Contracts.{PickRoom};
+ghost use Rattle.prune_rows.specs.Steps.{PutAsks, PutGives, TurnGives, PickAsks, PickGives};
 
 // The rows of the second table and the bytes of its area.
 pub struct Pruned {
@@ -28,8 +28,8 @@ fn put(
     lengths2: &mut [u16],
     values2: &mut [u8],
 ) -> Pruned
-    requires { ⌜ Puts t c l (p .rows) (p .used) (now part) (now types2) (now counts2) (now lengths2) (now values2) ⌝ }
-    ensures { λ r. ⌜ Added (entryOf t c (now (part .entry))) l (p .rows) (p .used) (now (types2 .entry)) (now (counts2 .entry)) (now (lengths2 .entry)) (now (values2 .entry)) (r .rows) (r .used) (now (types2 .exit)) (now (counts2 .exit)) (now (lengths2 .exit)) (now (values2 .exit)) ⌝ }
+    requires { ⌜ PutAsks t c l (p .rows) (p .used) (now part) (now types2) (now counts2) (now lengths2) (now values2) ⌝ }
+    ensures { λ r. ⌜ PutGives (entryOf t c (now (part .entry))) l (p .rows) (p .used) (now (types2 .entry)) (now (counts2 .entry)) (now (lengths2 .entry)) (now (values2 .entry)) (r .rows) (r .used) (now (types2 .exit)) (now (counts2 .exit)) (now (lengths2 .exit)) (now (values2 .exit)) ⌝ }
 {
     let at = p.rows;
     let from = p.used;
@@ -56,8 +56,8 @@ fn turn(
     lengths2: &mut [u16],
     values2: &mut [u8],
 ) -> Pruned
-    requires { ⌜ (1 < mark → 0 < c) × (length (now label) ≡ labelBytes) × Puts t c l (p .rows) (p .used) (now value) (now types2) (now counts2) (now lengths2) (now values2) × (p .used + l + labelBytes ≤ length (now values2)) ⌝ }
-    ensures { λ r. ⌜ Turn mark l (entryOf t c (now (value .entry))) (now (label .entry)) (p .rows) (p .used) (now (types2 .entry)) (now (counts2 .entry)) (now (lengths2 .entry)) (now (values2 .entry)) (r .rows) (r .used) (now (types2 .exit)) (now (counts2 .exit)) (now (lengths2 .exit)) (now (values2 .exit)) ⌝ }
+    requires { ⌜ (1 < mark → 0 < c) × (length (now label) ≡ labelBytes) × PutAsks t c l (p .rows) (p .used) (now value) (now types2) (now counts2) (now lengths2) (now values2) × (p .used + l + labelBytes ≤ length (now values2)) ⌝ }
+    ensures { λ r. ⌜ TurnGives mark l (entryOf t c (now (value .entry))) (now (label .entry)) (p .rows) (p .used) (now (types2 .entry)) (now (counts2 .entry)) (now (lengths2 .entry)) (now (values2 .entry)) (r .rows) (r .used) (now (types2 .exit)) (now (counts2 .exit)) (now (lengths2 .exit)) (now (values2 .exit)) ⌝ }
 {
     if mark == Mark::GONE {
         return p;
@@ -91,9 +91,9 @@ pub fn pick(
     lengths2: &mut [u16],
     values2: &mut [u8],
 ) -> Pruned
-    requires { ⌜ Pickable (now types) (now counts) (now lengths) (now values) (now labels) (now marks) ⌝ }
-    requires { ⌜ Roomy (now types) (now lengths) (now types2) (now counts2) (now lengths2) (now values2) × (length (now types) ≤ length (now marks)) ⌝ }
-    ensures { λ r. ⌜ Picks (now (types .entry)) (now (counts .entry)) (now (lengths .entry)) (now (values .entry)) (now (labels .entry)) (now (marks .entry)) (r .rows) (r .used) (now (types2 .exit)) (now (counts2 .exit)) (now (lengths2 .exit)) (now (values2 .exit)) ⌝ }
+    requires { ⌜ PickAsks (now types) (now counts) (now lengths) (now values) (now labels) (now marks) ⌝ }
+    requires { ⌜ PickRoom (now types) (now lengths) (now types2) (now counts2) (now lengths2) (now values2) × (length (now types) ≤ length (now marks)) ⌝ }
+    ensures { λ r. ⌜ PickGives (now (types .entry)) (now (counts .entry)) (now (lengths .entry)) (now (values .entry)) (now (labels .entry)) (now (marks .entry)) (r .rows) (r .used) (now (types2 .exit)) (now (counts2 .exit)) (now (lengths2 .exit)) (now (values2 .exit)) ⌝ }
 {
     let mut i = 0;
     let mut at = 0;

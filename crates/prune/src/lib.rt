@@ -17,7 +17,7 @@ ghost use Rattle.slips.specs.Check.{headerOf};
 ghost use Rattle.slips.specs.Opening.{Counted};
 ghost use Rattle.outcomes.specs.Outcome.{Leaves};
 ghost use Rattle.prune.specs.Prune.{pruneOf};
-ghost use Rattle.prune.specs.Contracts.{PruneAsks};
+ghost use Rattle.prune.specs.Contracts.{PruneInAsks};
 
 // Prunes a slip whose header is taken, in lent areas.
 fn prune_in(
@@ -31,7 +31,7 @@ fn prune_in(
     labels: &mut [u8],
     out: &mut [u8],
 ) -> Answer
-    requires { ⌜ PruneAsks (now s) n (now types) (now counts) (now lengths) (now values) (now labels) ⌝ }
+    requires { ⌜ PruneInAsks (now s) n (now types) (now counts) (now lengths) (now values) (now labels) ⌝ }
     ensures { λ r. ⌜ Leaves (pruneOf Sha256.label composedText (now (s .entry)) (now (list .entry)) (now (out .entry))) r (now (out .exit)) ⌝ }
 {
     let o = open::open_in(s, n, types, counts, lengths, values, labels);

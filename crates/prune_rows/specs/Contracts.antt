@@ -21,21 +21,21 @@ pub record Written (rows used : ℕ) (types counts lengths values : List ℕ) (e
   pub are : entries (take rows types) (take rows counts) (take rows lengths) (take used values) ≡ es
 
 -- a table that holds a tree, and a list without fault
-pub record Prunable (types counts lengths values labels list : List ℕ) : Type 0 where
+pub record PruneAsks (types counts lengths values labels list : List ℕ) : Type 0 where
   pub H : List ℕ → List ℕ
   pub n : Node
   pub holds : Holds H n types counts lengths values labels
   pub clean : firstFault counts 0 0 list ≡ length list
 
 -- the second table has room
-pub record Roomy (types lengths types2 counts2 lengths2 values2 : List ℕ) : Type 0 where
+pub record PickRoom (types lengths types2 counts2 lengths2 values2 : List ℕ) : Type 0 where
   pub types-room : length types ≤ length types2
   pub counts-room : length types ≤ length counts2
   pub lengths-room : length types ≤ length lengths2
   pub values-room : sum lengths + labelBytes * length types ≤ length values2
 
 -- whatever tree the table holds, the second table is that of the pruned tree
-pub record Prunes (types counts lengths values labels list : List ℕ) (rows used : ℕ) (types2 counts2 lengths2 values2 : List ℕ) : Type 0 where
+pub record PruneGives (types counts lengths values labels list : List ℕ) (rows used : ℕ) (types2 counts2 lengths2 values2 : List ℕ) : Type 0 where
   pub some-row : 1 ≤ rows
   pub no-more : rows ≤ length types
   pub table :

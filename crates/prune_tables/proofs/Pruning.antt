@@ -8,19 +8,19 @@ use Rattle.trees.specs.Rows.{prunedRows}
 use Rattle.tables.specs.PruningList.{named}
 use Rattle.tables.specs.Records.{Holds}
 use Rattle.sha2.specs.Sha256 as Sha256
-use Rattle.prune_rows.specs.Contracts.{Written, Prunable, Prunes}
-use Rattle.prune_rows.specs.Steps.{Pickable, Picks}
+use Rattle.prune_rows.specs.Contracts.{Written, PruneAsks, PruneGives}
+use Rattle.prune_rows.specs.Steps.{PickAsks, PickGives}
 use Rattle.prune_rows.specs.PrunedLaws.{Marked, marked-inner, picked-table, pruned-some, written-rows}
 use Rattle.prune_tables.specs.Contracts.{CleanAsks}
 
 -- a table that holds a tree, and a list without fault
 pub able : {types counts lengths values labels list : List ℕ} → CleanAsks types counts lengths values labels list
-    → Prunable types counts lengths values labels list
+    → PruneAsks types counts lengths values labels list
 able p = record { H = Sha256.label; n = p .asks .n; holds = p .asks .holds; clean = p .clean }
 
-module _ {types counts lengths values labels list marks : List ℕ} (x : Prunable types counts lengths values labels list)
+module _ {types counts lengths values labels list marks : List ℕ} (x : PruneAsks types counts lengths values labels list)
     (marked : Marked list counts marks) where
-  pub pickable : Pickable types counts lengths values labels marks
+  pub pickable : PickAsks types counts lengths values labels marks
   pickable =
       let h = x .holds in
       record {
@@ -31,8 +31,8 @@ module _ {types counts lengths values labels list marks : List ℕ} (x : Prunabl
 
   pub prunes :
       {rows used : ℕ} {ts cs ls vs : List ℕ}
-      → Picks types counts lengths values labels marks rows used ts cs ls vs
-      → Prunes types counts lengths values labels list rows used ts cs ls vs
+      → PickGives types counts lengths values labels marks rows used ts cs ls vs
+      → PruneGives types counts lengths values labels list rows used ts cs ls vs
   prunes {rows} {used} {ts} {cs} {ls} {vs} p = record { some-row = some; no-more = p .no-more; table = table }
     where
       table : (H : List ℕ → List ℕ) (n : Node) → Holds H n types counts lengths values labels

@@ -13,7 +13,7 @@ use Rattle.outcomes.specs.Refusals.{badList}
 use Rattle.tables.specs.PruningList.{named, firstFault, pruned}
 use Rattle.tables.specs.Records.{TreeTable, Holds}
 use Rattle.tables.specs.ListRule.{fault-within}
-use Rattle.prune_rows.specs.Contracts.{Written, Prunes}
+use Rattle.prune_rows.specs.Contracts.{Written, PruneGives}
 use Rattle.prune_rows.specs.PrunedLaws.{rows-pruned}
 use Rattle.slips.specs.declared.answer.Answer.{Answer}
 use Rattle.slips.specs.Answers.{refused}
@@ -41,7 +41,7 @@ module _ (H : List ℕ → List ℕ) (counts list out : List ℕ) (n : Node) whe
 
 -- the second table is that of the pruned tree
 module _ {types counts lengths values labels list : List ℕ} {rows2 used : ℕ} {types2 counts2 lengths2 values2 : List ℕ}
-    (p : Prunes types counts lengths values labels list rows2 used types2 counts2 lengths2 values2)
+    (p : PruneGives types counts lengths values labels list rows2 used types2 counts2 lengths2 values2)
     {H : List ℕ → List ℕ} {n : Node} (h : Holds H n types counts lengths values labels) where
   pub written : Written rows2 used types2 counts2 lengths2 values2 (prunedRows H (named list) 0 n)
   written = p .table H n h

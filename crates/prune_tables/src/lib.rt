@@ -10,7 +10,7 @@ use tables::limits::Slip;
 ghost use Prim.Native.Nat.{_≤_};
 ghost use lib.ListN.{length};
 ghost use Rattle.tables.specs.Areas.{smallBytes, smallNodes};
-ghost use Rattle.prune_rows.specs.Contracts.{Roomy};
+ghost use Rattle.prune_rows.specs.Contracts.{PickRoom};
 ghost use Rattle.prune_tables.specs.Contracts.{CutAsks, CutGives, CleanAsks, CleanGives};
 
 // Prunes a table by a list without fault in lent areas, and sends the pruned tree's slip.
@@ -28,7 +28,7 @@ fn send_pruned(
     values2: &mut [u8],
     out: &mut [u8],
 ) -> Answer
-    requires { ⌜ CleanAsks (now types) (now counts) (now lengths) (now values) (now labels) (now list) × Roomy (now types) (now lengths) (now types2) (now counts2) (now lengths2) (now values2) ⌝ }
+    requires { ⌜ CleanAsks (now types) (now counts) (now lengths) (now values) (now labels) (now list) × PickRoom (now types) (now lengths) (now types2) (now counts2) (now lengths2) (now values2) ⌝ }
     ensures { λ r. ⌜ CleanGives (now (types .entry)) (now (counts .entry)) (now (lengths .entry)) (now (values .entry)) (now (labels .entry)) (now (list .entry)) label (now (out .entry)) r (now (out .exit)) ⌝ }
 {
     let mut marks = [0u8; Slip::MAX_NODES];

@@ -42,10 +42,10 @@ abbrev pub whole : List (List ℕ) → List ℕ
 whole [] = []
 whole (part ∷ parts) = part ++ whole parts
 
-grown : {d e : Digest} (t : List ℕ) (parts : List (List ℕ)) → Holds d t → Takes d parts e → Holds e (t ++ whole parts)
-grown {d} t [] h none = subst (λ (l : List ℕ). Holds d l) (sym (append-nil t)) h
-grown {e = e} t (part ∷ parts) h (more g r) =
-    subst (λ (l : List ℕ). Holds e l) (append-assoc t part (whole parts)) (grown (t ++ part) parts (g t h) r)
+held-all : {d e : Digest} (t : List ℕ) (parts : List (List ℕ)) → Holds d t → Takes d parts e → Holds e (t ++ whole parts)
+held-all {d} t [] h none = subst (λ (l : List ℕ). Holds d l) (sym (append-nil t)) h
+held-all {e = e} t (part ∷ parts) h (more g r) =
+    subst (λ (l : List ℕ). Holds e l) (append-assoc t part (whole parts)) (held-all (t ++ part) parts (g t h) r)
 
 -- document 01: "cutting the prelabel elsewhere gives the same label". However a text is cut into parts, a new digest that
 -- takes them in turn ends with the SHA-256 of the whole.
@@ -55,4 +55,4 @@ pub cut-anywhere :
     → Takes new parts e
     → Ends e label-given
     → label-given ≡ label (whole parts)
-cut-anywhere parts h r end = end (whole parts) (grown [] parts h r)
+cut-anywhere parts h r end = end (whole parts) (held-all [] parts h r)

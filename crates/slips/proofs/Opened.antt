@@ -11,18 +11,18 @@ use Rattle.tables.specs.Tables.{entries}
 use Rattle.codec.specs.Reading.{Reading, readAll}
 use Rattle.codec.specs.Reader.{headBits, FillGives}
 use Rattle.codec.specs.declared.fill.Filled.{Filled}
-use Rattle.engine.specs.Engine.{told, Labelled}
-use Rattle.engine.specs.Judging.{Given, Judges}
+use Rattle.engine.specs.Engine.{told, RowsLabelled}
+use Rattle.engine.specs.Judging.{JudgeAsks, JudgeGives}
 use Rattle.engine.specs.declared.judge.Judged.{Judged}
 use Rattle.sha2.specs.Sha256 as Sha256
 use Rattle.titles.specs.Compose.{composedText}
 use Rattle.slips.specs.declared.answer.Answer.{Answer}
 use Rattle.slips.specs.Check.{countOf, readingOf, bodyOf}
-use Rattle.slips.specs.Opening.{Lent, settledBy, Opens}
+use Rattle.slips.specs.Opening.{OpenAsks, settledBy, OpenGives}
 use Rattle.slips.specs.Verdicts.{settled-told}
 
 -- What was read lies within the columns and the area, which are as long as they came, and is what the engine asks.
-module _ {s : List ℕ} {n : ℕ} {types₀ counts₀ lengths₀ values₀ labels : List ℕ} (p : Lent s n types₀ counts₀ lengths₀ values₀ labels)
+module _ {s : List ℕ} {n : ℕ} {types₀ counts₀ lengths₀ values₀ labels : List ℕ} (p : OpenAsks s n types₀ counts₀ lengths₀ values₀ labels)
     {x : Reading} {r : Filled} {types counts lengths values : List ℕ} (f : FillGives s n x r types counts lengths values)
     (kt : length types ≡ length types₀) (kc : length counts ≡ length counts₀) (kl : length lengths ≡ length lengths₀)
   where
@@ -35,7 +35,7 @@ module _ {s : List ℕ} {n : ℕ} {types₀ counts₀ lengths₀ values₀ label
     pub lengths-in : r .rows ≤ length lengths
     lengths-in = omega (arith, f .few, p .lengths-room)
 
-    pub read-given : Given (take (r .rows) types) (take (r .rows) counts) (take (r .rows) lengths) (take (r .used) values) labels
+    pub read-given : JudgeAsks (take (r .rows) types) (take (r .rows) counts) (take (r .rows) lengths) (take (r .used) values) labels
     read-given =
         let ts = length-take-le (r .rows) types types-in in
         let cs = length-take-le (r .rows) counts counts-in in
@@ -55,7 +55,7 @@ module _ {s : List ℕ} {n : ℕ} {types₀ counts₀ lengths₀ values₀ label
 module _ (s : List ℕ) (n : ℕ) (counted : n ≡ countOf s) {r : Filled} {types counts lengths values : List ℕ}
     (f : FillGives s n (readAll n (drop headBits (bitsOf s))) r types counts lengths values)
     {j : Judged} {labels : List ℕ}
-    (g : Judges (take (r .rows) types) (take (r .rows) counts) (take (r .rows) lengths) (take (r .used) values) j labels)
+    (g : JudgeGives (take (r .rows) types) (take (r .rows) counts) (take (r .rows) lengths) (take (r .used) values) j labels)
   where
     reading : readAll n (drop headBits (bitsOf s)) ≡ readingOf s
     reading = ap (λ (m : ℕ). readAll m (drop headBits (bitsOf s))) counted
@@ -67,7 +67,7 @@ module _ (s : List ℕ) (n : ℕ) (counted : n ≡ countOf s) {r : Filled} {type
     told-as = g .answer ∙ ap (λ (es : List Entry). told (verdict Sha256.label composedText es)) rows-are
 
     pub opened : {a : Answer} → a ≡ settledBy (length s) (r .rows) (r .whole) (drop (r .at) (bitsOf s)) j
-        → Opens s (record { answer = a; rows = r .rows; used = r .used }) types counts lengths values labels
+        → OpenGives s (record { answer = a; rows = r .rows; used = r .used }) types counts lengths values labels
     unfolding bodyOf
     opened e =
         let count : r .rows ≡ length (readingOf s .rows) = f .count ∙ ap (λ (x : Reading). length (x .rows)) reading in
@@ -81,5 +81,5 @@ module _ (s : List ℕ) (n : ℕ) (counted : n ≡ countOf s) {r : Filled} {type
           used = f .used;
           few = rw counted at (f .few);
           room = f .room;
-          labelled = subst (λ (es : List Entry). Labelled Sha256.label composedText es (take (r .rows) counts) labels) rows-are (g .labelled);
+          labelled = subst (λ (es : List Entry). RowsLabelled Sha256.label composedText es (take (r .rows) counts) labels) rows-are (g .labelled);
         }

@@ -12,13 +12,13 @@ use Rattle.trees.specs.RowsLaws.{length-rows}
 use Rattle.trees.specs.RowLabelsLaws.{length-labels}
 use Rattle.outcomes.specs.Refusals.{accepted}
 use Rattle.tables.specs.Tables.{entryOf, entries, sum, Columns}
-use Rattle.engine.specs.Engine.{Labelled}
+use Rattle.engine.specs.Engine.{RowsLabelled}
 use Rattle.sha2.specs.Sha256 as Sha256
 use Rattle.titles.specs.Compose.{composedText}
 use Rattle.slips.specs.declared.answer.Answer.{Answer}
 use Rattle.slips.specs.declared.open.Opened.{Opened}
 use Rattle.slips.specs.Check.{countOf}
-use Rattle.slips.specs.Opening.{Opens}
+use Rattle.slips.specs.Opening.{OpenGives}
 use Rattle.slips.specs.RowLabelLaws.{labelled-tree}
 use Rattle.slips.specs.SlipTree.{slipTree}
 use Rattle.slips.specs.SlipTreeLaws.{ReadsAs, body-tree}
@@ -45,7 +45,7 @@ pub record Rooms (n : ℕ) (types counts lengths labels : List ℕ) : Type 0 whe
   pub lengths-room : n ≤ length lengths
   pub labels-room : labelBytes * n ≤ length labels
 
-module _ {s : List ℕ} {r : Opened} {types counts lengths values labels : List ℕ} (o : Opens s r types counts lengths values labels)
+module _ {s : List ℕ} {r : Opened} {types counts lengths values labels : List ℕ} (o : OpenGives s r types counts lengths values labels)
     (m : Rooms (countOf s) types counts lengths labels) (e : r .answer .number ≡ accepted) where
   is : ReadsAs Sha256.label composedText s (slipTree s)
   is = body-tree Sha256.label composedText s (ap (λ (a : Answer). a .number) (sym (o .answer)) ∙ e)
@@ -66,8 +66,8 @@ module _ {s : List ℕ} {r : Opened} {types counts lengths values labels : List 
 
   pub holds-tree : HoldsTree s (r .rows) types counts lengths values labels
   holds-tree =
-      let marked : Labelled Sha256.label composedText (rows (slipTree s)) (take (r .rows) counts) labels =
-      subst (λ (es : List Entry). Labelled Sha256.label composedText es (take (r .rows) counts) labels) (is .rows-are) (o .labelled) in
+      let marked : RowsLabelled Sha256.label composedText (rows (slipTree s)) (take (r .rows) counts) labels =
+      subst (λ (es : List Entry). RowsLabelled Sha256.label composedText es (take (r .rows) counts) labels) (is .rows-are) (o .labelled) in
       let sized : r .rows ≡ size (slipTree s) = o .count ∙ ap length (is .rows-are) ∙ length-rows (slipTree s) in
       record {
         reads-as = is;

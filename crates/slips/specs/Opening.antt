@@ -11,7 +11,7 @@ use Rattle.outcomes.specs.Refusals.{accepted, cutShort}
 use Rattle.tables.specs.Tables.{entries, firstBad, sum}
 use Rattle.sha2.specs.Sha256 as Sha256
 use Rattle.titles.specs.Compose.{composedText}
-use Rattle.engine.specs.Engine.{Labelled}
+use Rattle.engine.specs.Engine.{RowsLabelled}
 use Rattle.engine.specs.declared.judge.Judged.{Judged}
 use Rattle.slips.specs.declared.answer.Answer.{Answer}
 use Rattle.slips.specs.declared.open.Opened.{Opened}
@@ -26,7 +26,7 @@ settledBy n rows whole rest j =
     (taken n (j .blocks) (j .label))
 
 -- a slip of n entries whose header is taken, and room for its rows, its values and its labels
-pub record Lent (s : List ℕ) (n : ℕ) (types counts lengths values labels : List ℕ) : Type 0 where
+pub record OpenAsks (s : List ℕ) (n : ℕ) (types counts lengths values labels : List ℕ) : Type 0 where
   pub head : headerBits ≤ 8 * length s
   pub long : length s ≤ maxBytes
   pub counted : n ≡ countOf s
@@ -38,7 +38,7 @@ pub record Lent (s : List ℕ) (n : ℕ) (types counts lengths values labels : L
   pub labels-room : labelBytes * n ≤ length labels
 
 -- the answer, the table of the rows read, and the label of each internal row
-pub record Opens (s : List ℕ) (r : Opened) (types counts lengths values labels : List ℕ) : Type 0 where
+pub record OpenGives (s : List ℕ) (r : Opened) (types counts lengths values labels : List ℕ) : Type 0 where
   pub answer : r .answer ≡ bodyOf Sha256.label composedText s
   pub count : r .rows ≡ length (readingOf s .rows)
   pub rows : entries (take (r .rows) types) (take (r .rows) counts) (take (r .rows) lengths) (take (r .used) values) ≡ readingOf s .rows
@@ -46,7 +46,7 @@ pub record Opens (s : List ℕ) (r : Opened) (types counts lengths values labels
   pub used : r .used ≡ sum (take (r .rows) lengths)
   pub few : r .rows ≤ countOf s
   pub room : r .used ≤ length values
-  pub labelled : Labelled Sha256.label composedText (readingOf s .rows) (take (r .rows) counts) labels
+  pub labelled : RowsLabelled Sha256.label composedText (readingOf s .rows) (take (r .rows) counts) labels
 
 -- a slip of n entries whose header is taken, of at most `bytes` bytes and `nodes` nodes
 pub record Counted (s : List ℕ) (n bytes nodes : ℕ) : Type 0 where

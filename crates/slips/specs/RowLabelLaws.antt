@@ -12,7 +12,7 @@ use Rattle.trees.specs.Rows.{Entry, node, rows, rowsIn, Tag, Step, tagOf}
 use Rattle.trees.specs.RowsLaws.{nodesOf}
 use Rattle.trees.specs.RowLabels.{labelsOf, labelsIn}
 use Rattle.trees.specs.StackLaws.{node-step}
-use Rattle.engine.specs.Engine.{lastText, topOf, tops, Labelled}
+use Rattle.engine.specs.Engine.{lastText, topOf, tops, RowsLabelled}
 
 -- the node pushed last is on the top
 last-pushed : (st : List Tag) (g : Tag) → lastText (st ++ (g ∷ [])) ≡ g .text
@@ -53,9 +53,9 @@ module _ (H : List ℕ → List ℕ) (composed : List ℕ → Bool) where
       ∙ append-nil (labelsOf H n)
 
   -- each internal row's 32 bytes in the area are its node's label: what a table that holds a tree is asked for
-  pub labelled-tree : (n : Node) (counts area : List ℕ) → WellFormed H composed n → Labelled H composed (rows n) counts area
+  pub labelled-tree : (n : Node) (counts area : List ℕ) → WellFormed H composed n → RowsLabelled H composed (rows n) counts area
       → (k : ℕ) → k < length (labelsOf H n) → 0 < getD counts k 0 → take labelBytes (drop (labelBytes * k) area) ≡ getD (labelsOf H n) k []
-  unfolding Labelled
+  unfolding RowsLabelled
   labelled-tree n counts area w l k here inner-row =
       let e = tops-tree n w in
       let there : k < length (tops H composed [] (rows n)) = omega (arith, ap length e) in

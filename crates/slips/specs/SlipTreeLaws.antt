@@ -67,14 +67,14 @@ module _ (H : List ℕ → List ℕ) (composed : List ℕ → Bool) where
       let x = reads s e in
       subst (ReadsAs s) (sym (tree-rows (x .0)) ∙ ap treeOf (sym (x .1 .rows-are))) (x .1)
 
-  pub record Taken (s : List ℕ) : Type 0 where
+  pub record AcceptedSlip (s : List ℕ) : Type 0 where
     pub reads-as : ReadsAs s (slipTree s)
     pub check-is : checkOf H composed s ≡ taken (length s) (blocks H (slipTree s)) (label H (slipTree s))
 
-  pub check-tree : (s : List ℕ) → checkOf H composed s .number ≡ accepted → Taken s
+  pub check-tree : (s : List ℕ) → checkOf H composed s .number ≡ accepted → AcceptedSlip s
   check-tree s e = by-header (eqb (headerOf s .number) accepted) refl
     where
-      by-header : (b : Bool) → eqb (headerOf s .number) accepted ≡ b → Taken s
+      by-header : (b : Bool) → eqb (headerOf s .number) accepted ≡ b → AcceptedSlip s
       by-header false f =
           let h = eqb-false (headerOf s .number) accepted f in
           absurd (h (ap (λ (a : Answer). a .number) (check-refused H composed s h) ∙ e))

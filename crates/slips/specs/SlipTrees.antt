@@ -120,7 +120,7 @@ module _ (H : List ℕ → List ℕ) (composed : List ℕ → Bool) where
       let count : length (rows n) ≤ maxNodes = omega (arith, length-rows n, x .few) in
       let r : Reads s (length (rows n)) (rows n) =
       subst (λ (t : List ℕ). Reads t (length (rows n)) (rows n)) (sym (x .is)) (slip-reads (rows n) (x .proper) count) in
-      ap (λ (y : Reading). y .rows) (ap (λ (k : ℕ). readAll k (drop headBits (bitsOf s))) (r .countIs) ∙ r .rows)
+      ap (λ (y : Reading). y .rows) (ap (λ (k : ℕ). readAll k (drop headBits (bitsOf s))) (r .count-is) ∙ r .rows)
 
   -- "check accepts .. the slips of well-formed trees .. with that tree's label and blocks"
   pub check-complete : (s : List ℕ) (n : Node) → SlipOf s n → checkOf H composed s ≡ taken (length s) (blocks H n) (label H n)
@@ -130,10 +130,10 @@ module _ (H : List ℕ → List ℕ) (composed : List ℕ → Bool) where
       let r : Reads s (length (rows n)) (rows n) =
       subst (λ (t : List ℕ). Reads t (length (rows n)) (rows n)) (sym (x .is)) (slip-reads (rows n) (x .proper) count) in
       let head : headerBits ≤ 8 * length s = omega (arith, r .head, length-bitsOf s) in
-      let some : countOf s ≡ 0 → ⊥ = λ e. omega (arith, r .countIs, length-rows n, some-size n) in
-      let h = header-counted s (x .long) head (r .editionIs) some in
+      let some : countOf s ≡ 0 → ⊥ = λ e. omega (arith, r .count-is, length-rows n, some-size n) in
+      let h = header-counted s (x .long) head (r .edition-is) some in
       let reading : readingOf s ≡ record { rows = rows n; rest = replicate (r .pad) 0; whole = true } =
-      ap (λ (k : ℕ). readAll k (drop headBits (bitsOf s))) (r .countIs) ∙ r .rows in
+      ap (λ (k : ℕ). readAll k (drop headBits (bitsOf s))) (r .count-is) ∙ r .rows in
       sym (check-body H composed s (sym (ap (λ y. y .number) h)))
       ∙ rw (reading, complete-tree H composed n (x .well))
       (one-settles s (r .pad) (rows n) n (r .few) (x .well .root))
@@ -157,8 +157,8 @@ module _ (H : List ℕ → List ℕ) (composed : List ℕ → Bool) where
       let reads : Reads s (countOf s) (r .rows) =
       record {
         head = omega (arith, c .head, length-bitsOf s);
-        editionIs = header-edition-is s h;
-        countIs = refl;
+        edition-is = header-edition-is s h;
+        count-is = refl;
         pad = length (r .rest);
         few = pad .0;
         rows = ap₂ (λ (x : List ℕ) (y : Bool). record { rows = r .rows; rest = x; whole = y }) (pad .1) (t .whole);

@@ -13,7 +13,7 @@ ghost use lib.ListN.{length, drop};
 ghost use Rattle.bits.specs.Bits.{bitsOf};
 ghost use Rattle.trees.specs.Rules.{maxBytes};
 ghost use Rattle.slips.specs.Check.{paddingFits};
-ghost use Rattle.slips.specs.Opening.{Lent, Opens, settledBy};
+ghost use Rattle.slips.specs.Opening.{OpenAsks, OpenGives, settledBy};
 
 // The answer, and how much of the areas the table takes.
 pub struct Opened {
@@ -65,8 +65,8 @@ pub fn open_in(
     values: &mut [u8],
     labels: &mut [u8],
 ) -> Opened
-    requires { ⌜ Lent (now s) n (now types) (now counts) (now lengths) (now values) (now labels) ⌝ }
-    ensures { λ r. ⌜ Opens (now (s .entry)) r (now (types .exit)) (now (counts .exit)) (now (lengths .exit)) (now (values .exit)) (now (labels .exit)) ⌝ }
+    requires { ⌜ OpenAsks (now s) n (now types) (now counts) (now lengths) (now values) (now labels) ⌝ }
+    ensures { λ r. ⌜ OpenGives (now (s .entry)) r (now (types .exit)) (now (counts .exit)) (now (lengths .exit)) (now (values .exit)) (now (labels .exit)) ⌝ }
 {
     let f = fill::fill(s, n, types, counts, lengths, values);
     let rows = f.rows;

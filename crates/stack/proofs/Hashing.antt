@@ -12,7 +12,7 @@ use Rattle.sha2.specs.Sha256 as Sha256
 use Rattle.sha2.specs.Blocks.{label-long}
 use Rattle.faults.specs.Waiting.{heightOf, greatest}
 use Rattle.faults.specs.WaitingLaws.{greatest-is}
-use Rattle.stack.specs.Areas.{pieces, Laid, Room, Pushes, Counted, Over, Ready, Grows}
+use Rattle.stack.specs.Areas.{pieces, Laid, PushAsks, PushGives, ParentAsks, ParentGives, GrowAsks, GrowGives}
 use Rattle.stack.specs.PieceLaws.{length-more}
 use Rattle.stack.specs.declared.Stack.{Stack}
 use Rattle.stack.specs.declared.Parent.{Parent}
@@ -22,20 +22,20 @@ use Rattle.stack.proofs.Laid.{kids-part, kids-bytes, kids-fit, kids-bot
 module _ {s : Stack} {i : ℕ} {e f : Entry} (q : e ≡ f) where
   pub ready-as :
       {kinds heights sizes work labels : List ℕ}
-      → Ready s e i kinds heights sizes work labels
-      → Ready s f i kinds heights sizes work labels
-  ready-as {kinds} {heights} {sizes} {work} {labels} p = subst (λ (x : Entry). Ready s x i kinds heights sizes work labels) q p
+      → GrowAsks s e i kinds heights sizes work labels
+      → GrowAsks s f i kinds heights sizes work labels
+  ready-as {kinds} {heights} {sizes} {work} {labels} p = subst (λ (x : Entry). GrowAsks s x i kinds heights sizes work labels) q p
 
   pub grows-as :
       {st : List Tag} {r : Stack} {labels kinds heights sizes work labels′ : List ℕ}
-      → Grows Sha256.label st f i s r labels kinds heights sizes work labels′
-      → Grows Sha256.label st e i s r labels kinds heights sizes work labels′
+      → GrowGives Sha256.label st f i s r labels kinds heights sizes work labels′
+      → GrowGives Sha256.label st e i s r labels kinds heights sizes work labels′
   grows-as {st} {r} {labels} {kinds} {heights} {sizes} {work} {labels′} g =
-      subst (λ (x : Entry). Grows Sha256.label st x i s r labels kinds heights sizes work labels′) (sym q) g
+      subst (λ (x : Entry). GrowGives Sha256.label st x i s r labels kinds heights sizes work labels′) (sym q) g
 
 -- A leaf is pushed.
-module _ (s : Stack) (t : ℕ) (v : List ℕ) (i : ℕ) {kinds heights sizes work labels : List ℕ} (p : Ready s (tip t v) i kinds heights sizes work labels) where
-  pub leaf-room : Room s t 1 v kinds heights sizes work
+module _ (s : Stack) (t : ℕ) (v : List ℕ) (i : ℕ) {kinds heights sizes work labels : List ℕ} (p : GrowAsks s (tip t v) i kinds heights sizes work labels) where
+  pub leaf-room : PushAsks s t 1 v kinds heights sizes work
   leaf-room =
       record {
         kind-fits = p .sound .0;
@@ -50,16 +50,16 @@ module _ (s : Stack) (t : ℕ) (v : List ℕ) (i : ℕ) {kinds heights sizes wor
   pub leaf-grows :
       (st : List Tag) {r : Stack} {kinds′ heights′ sizes′ work′ : List ℕ}
       → Laid st (s .depth) (s .top) kinds heights sizes work
-      → Pushes s t 1 v r kinds heights sizes work kinds′ heights′ sizes′ work′
-      → Grows Sha256.label st (tip t v) i s r labels kinds′ heights′ sizes′ work′ labels
+      → PushGives s t 1 v r kinds heights sizes work kinds′ heights′ sizes′ work′
+      → GrowGives Sha256.label st (tip t v) i s r labels kinds′ heights′ sizes′ work′ labels
   leaf-grows st l q = record { laid = q .laid st l; blocks = omega (arith, q .blocks); labels-are = refl }
 
 -- An internal node takes the last `count`.
-module _ (s : Stack) (count i : ℕ) {kinds heights sizes work labels : List ℕ} (p : Ready s (node count) i kinds heights sizes work labels) where
+module _ (s : Stack) (count i : ℕ) {kinds heights sizes work labels : List ℕ} (p : GrowAsks s (node count) i kinds heights sizes work labels) where
   pub there : count ≤ s .depth
   there = omega (arith, p .sound .0, p .laid .deep)
 
-  pub counted : Counted s count heights sizes work
+  pub counted : ParentAsks s count heights sizes work
   counted =
       record {
         there = there;
@@ -71,7 +71,7 @@ module _ (s : Stack) (count i : ℕ) {kinds heights sizes work labels : List ℕ
         small = p .small;
       }
 
-  module _ {r : Parent} (o : Over s count r heights sizes work) where
+  module _ {r : Parent} (o : ParentGives s count r heights sizes work) where
     pub parent-fits : r .long ≤ s .top
     parent-fits = omega (arith, o .long, counted .long)
 
@@ -101,7 +101,7 @@ module _ (s : Stack) (count i : ℕ) {kinds heights sizes work labels : List ℕ
     pub parent-label : length (r .label) ≡ labelBytes
     parent-label = label-whole (p .laid)
 
-    pub parent-room : (b : ℕ) → Room (record { depth = s .depth - count; top = s .top - r .long; blocks = b }) 0 (r .height) (r .label) kinds heights sizes work
+    pub parent-room : (b : ℕ) → PushAsks (record { depth = s .depth - count; top = s .top - r .long; blocks = b }) 0 (r .height) (r .label) kinds heights sizes work
     parent-room b =
         let gs : List Tag = kids count (p .st) in
         let n : length (r .label) ≡ labelBytes = label-whole (p .laid) in
@@ -128,8 +128,8 @@ module _ (s : Stack) (count i : ℕ) {kinds heights sizes work labels : List ℕ
         → Laid st (s .depth) (s .top) kinds heights sizes work
         → b ≡ s .blocks + blocksOf (r .long)
         → labels′ ≡ paste labels (labelBytes * i) (r .label) (length (r .label))
-        → Pushes (record { depth = s .depth - count; top = s .top - r .long; blocks = b }) 0 (r .height) (r .label) r′ kinds heights sizes work kinds′ heights′ sizes′ work′
-        → Grows Sha256.label st (node count) i s r′ labels kinds′ heights′ sizes′ work′ labels′
+        → PushGives (record { depth = s .depth - count; top = s .top - r .long; blocks = b }) 0 (r .height) (r .label) r′ kinds heights sizes work kinds′ heights′ sizes′ work′
+        → GrowGives Sha256.label st (node count) i s r′ labels kinds′ heights′ sizes′ work′ labels′
     node-grows st {r′ = r′} {kinds′} {heights′} {sizes′} {work′} l b n q =
         let gs : List Tag = kids count st in
         let tag : _≡_ {A = Tag} (record { kind = 0; height = r .height; text = r .label }) (parent Sha256.label (highestOf gs) (map headOf gs)) =

@@ -25,7 +25,7 @@ pub record Laid (st : List Tag) (depth top : ℕ) (kinds heights sizes work : Li
   pub full : length (pieces st) ≡ top
 
 -- room for one node more
-pub record Room (s : Stack) (kind height : ℕ) (text kinds heights sizes work : List ℕ) : Type 0 where
+pub record PushAsks (s : Stack) (kind height : ℕ) (text kinds heights sizes work : List ℕ) : Type 0 where
   pub kind-fits : kind < 2 ^ 16
   pub height-fits : height < 2 ^ 16
   pub text-fits : length text < 2 ^ 16
@@ -35,7 +35,7 @@ pub record Room (s : Stack) (kind height : ℕ) (text kinds heights sizes work :
   pub work-room : s .top + headBytes + length text ≤ length work
 
 -- whatever stack lay in the areas, it lies there with one node more
-pub record Pushes (s : Stack) (kind height : ℕ) (text : List ℕ) (r : Stack)
+pub record PushGives (s : Stack) (kind height : ℕ) (text : List ℕ) (r : Stack)
     (kinds heights sizes work kinds′ heights′ sizes′ work′ : List ℕ) : Type 0 where
   pub laid :
       (st : List Tag)
@@ -48,7 +48,7 @@ abbrev pub lastOf : ℕ → ℕ → List ℕ → List ℕ
 lastOf k d w = take (d - (d - k)) (drop (d - k) w)
 
 -- the last `count` of those that wait
-pub record Counted (s : Stack) (count : ℕ) (heights sizes work : List ℕ) : Type 0 where
+pub record ParentAsks (s : Stack) (count : ℕ) (heights sizes work : List ℕ) : Type 0 where
   pub there : count ≤ s .depth
   pub heights-room : s .depth ≤ length heights
   pub sizes-room : s .depth ≤ length sizes
@@ -58,7 +58,7 @@ pub record Counted (s : Stack) (count : ℕ) (heights sizes work : List ℕ) : T
   pub small : s .top < 2 ^ 20
 
 -- what they give their parent
-pub record Over (s : Stack) (count : ℕ) (r : Parent) (heights sizes work : List ℕ) : Type 0 where
+pub record ParentGives (s : Stack) (count : ℕ) (r : Parent) (heights sizes work : List ℕ) : Type 0 where
   pub height : r .height ≡ greatest (lastOf count (s .depth) heights) + 1
   pub long : r .long ≡ sum (lastOf count (s .depth) sizes) + headBytes * count
   pub label : r .label ≡ Sha256.label (lastOf (r .long) (s .top) work)
@@ -85,13 +85,13 @@ module _ (H : List ℕ → List ℕ) where
   noted st (tip t v) i labels = labels
 
   -- the areas hold the stack after the entry; the blocks and the labels are those after it
-  pub record Grows (st : List Tag) (e : Entry) (i : ℕ) (s r : Stack) (labels kinds′ heights′ sizes′ work′ labels′ : List ℕ) : Type 0 where
+  pub record GrowGives (st : List Tag) (e : Entry) (i : ℕ) (s r : Stack) (labels kinds′ heights′ sizes′ work′ labels′ : List ℕ) : Type 0 where
     pub laid : Laid (after st e) (r .depth) (r .top) kinds′ heights′ sizes′ work′
     pub blocks : r .blocks ≡ s .blocks + cost st e
     pub labels-are : labels′ ≡ noted st e i labels
 
 -- A stack lies in the areas, the entry meets no refusal on it, and there is room for what it makes.
-pub record Ready (s : Stack) (e : Entry) (i : ℕ) (kinds heights sizes work labels : List ℕ) : Type 0 where
+pub record GrowAsks (s : Stack) (e : Entry) (i : ℕ) (kinds heights sizes work labels : List ℕ) : Type 0 where
   pub st : List Tag
   pub laid : Laid st (s .depth) (s .top) kinds heights sizes work
   pub sound : Sound st e

@@ -10,7 +10,7 @@ ghost use Rattle.trees.specs.Nodes.{blocksOf};
 ghost use Rattle.trees.specs.Rows.{Tag, node};
 ghost use Rattle.tables.specs.Tables.{entryOf};
 ghost use Rattle.sha2.specs.Sha256 as Sha256;
-ghost use Rattle.stack.specs.Areas.{Laid, Room, Pushes, Counted, Over, Ready, Grows};
+ghost use Rattle.stack.specs.Areas.{Laid, PushAsks, PushGives, ParentAsks, ParentGives, GrowAsks, GrowGives};
 
 // How many wait, where the next piece goes, and the blocks compressed so far.
 pub struct Stack {
@@ -38,8 +38,8 @@ fn push(
     sizes: &mut [u16],
     work: &mut [u8],
 ) -> Stack
-    requires { ⌜ Room s kind height (now text) (now kinds) (now heights) (now sizes) (now work) ⌝ }
-    ensures { λ r. ⌜ Pushes s kind height (now (text .entry)) r (now (kinds .entry)) (now (heights .entry)) (now (sizes .entry)) (now (work .entry)) (now (kinds .exit)) (now (heights .exit)) (now (sizes .exit)) (now (work .exit)) ⌝ }
+    requires { ⌜ PushAsks s kind height (now text) (now kinds) (now heights) (now sizes) (now work) ⌝ }
+    ensures { λ r. ⌜ PushGives s kind height (now (text .entry)) r (now (kinds .entry)) (now (heights .entry)) (now (sizes .entry)) (now (work .entry)) (now (kinds .exit)) (now (heights .exit)) (now (sizes .exit)) (now (work .exit)) ⌝ }
 {
     let depth = s.depth;
     let size = text.len();
@@ -63,8 +63,8 @@ struct Parent {
 
 // Their prelabel stands as it is hashed, at the end of the area.
 fn parent_of(s: Stack, count: usize, heights: &[u16], sizes: &[u16], work: &[u8]) -> Parent
-    requires { ⌜ Counted s count (now heights) (now sizes) (now work) ⌝ }
-    ensures { λ r. ⌜ Over s count r (now (heights .entry)) (now (sizes .entry)) (now (work .entry)) ⌝ }
+    requires { ⌜ ParentAsks s count (now heights) (now sizes) (now work) ⌝ }
+    ensures { λ r. ⌜ ParentGives s count r (now (heights .entry)) (now (sizes .entry)) (now (work .entry)) ⌝ }
 {
     let depth = s.depth;
     let top = s.top;
@@ -91,8 +91,8 @@ fn hash(
     work: &mut [u8],
     labels: &mut [u8],
 ) -> Stack
-    requires { ⌜ Ready s (node count) i (now kinds) (now heights) (now sizes) (now work) (now labels) ⌝ }
-    ensures { λ r. ⌜ ((st : List Tag) → Laid st (s .depth) (s .top) (now (kinds .entry)) (now (heights .entry)) (now (sizes .entry)) (now (work .entry)) → Grows Sha256.label st (node count) i s r (now (labels .entry)) (now (kinds .exit)) (now (heights .exit)) (now (sizes .exit)) (now (work .exit)) (now (labels .exit))) ⌝ }
+    requires { ⌜ GrowAsks s (node count) i (now kinds) (now heights) (now sizes) (now work) (now labels) ⌝ }
+    ensures { λ r. ⌜ ((st : List Tag) → Laid st (s .depth) (s .top) (now (kinds .entry)) (now (heights .entry)) (now (sizes .entry)) (now (work .entry)) → GrowGives Sha256.label st (node count) i s r (now (labels .entry)) (now (kinds .exit)) (now (heights .exit)) (now (sizes .exit)) (now (work .exit)) (now (labels .exit))) ⌝ }
 {
     let p = parent_of(s, count, heights, sizes, work);
     let depth = s.depth - count;
@@ -114,7 +114,7 @@ fn hash(
 }
 
 // The stack after a row's entry that meets no refusal.
-pub fn grown(
+pub fn grow(
     s: Stack,
     kind: usize,
     count: usize,
@@ -126,8 +126,8 @@ pub fn grown(
     work: &mut [u8],
     labels: &mut [u8],
 ) -> Stack
-    requires { ⌜ Ready s (entryOf kind count (now value)) i (now kinds) (now heights) (now sizes) (now work) (now labels) ⌝ }
-    ensures { λ r. ⌜ ((st : List Tag) → Laid st (s .depth) (s .top) (now (kinds .entry)) (now (heights .entry)) (now (sizes .entry)) (now (work .entry)) → Grows Sha256.label st (entryOf kind count (now (value .entry))) i s r (now (labels .entry)) (now (kinds .exit)) (now (heights .exit)) (now (sizes .exit)) (now (work .exit)) (now (labels .exit))) ⌝ }
+    requires { ⌜ GrowAsks s (entryOf kind count (now value)) i (now kinds) (now heights) (now sizes) (now work) (now labels) ⌝ }
+    ensures { λ r. ⌜ ((st : List Tag) → Laid st (s .depth) (s .top) (now (kinds .entry)) (now (heights .entry)) (now (sizes .entry)) (now (work .entry)) → GrowGives Sha256.label st (entryOf kind count (now (value .entry))) i s r (now (labels .entry)) (now (kinds .exit)) (now (heights .exit)) (now (sizes .exit)) (now (work .exit)) (now (labels .exit))) ⌝ }
 {
     if count == 0 {
         push(s, kind, 1, value, kinds, heights, sizes, work)

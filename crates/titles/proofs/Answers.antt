@@ -14,8 +14,8 @@ use Rattle.outcomes.specs.Refusals.{accepted, noRoom, titleLong}
 use Rattle.unicode.specs.Utf8.{decode}
 use Rattle.unicode.specs.Joining.{accepts}
 use Rattle.outcomes.specs.Outcome.{Output, Leaves}
-use Rattle.titles.specs.Compose.{text, refusal, acceptance, composeOf, maxBytes}
-use Rattle.titles.specs.Outcomes.{long, refused, short, taken, judged-accepts, accepts-judged}
+use Rattle.titles.specs.Compose.{text, refusal, acceptance, composeOf, maxTitle}
+use Rattle.titles.specs.ComposeLaws.{long, refused, short, taken, judged-accepts, accepts-judged}
 use Rattle.titles.specs.Scan.{Scanned}
 
 met :
@@ -30,10 +30,10 @@ met title out left r o e p q =
       written = q ∙ sym (ap (λ (x : Output Composed). x .left) e);
     }
 
-pub met-long : (title out : List ℕ) (r : Composed) → maxBytes < length title → r ≡ refusal titleLong 0 → Leaves (composeOf title out) r out
-met-long title out r over e = met title out out r _ (long title out (lt-ltb maxBytes (length title) over)) e refl
+pub met-long : (title out : List ℕ) (r : Composed) → maxTitle < length title → r ≡ refusal titleLong 0 → Leaves (composeOf title out) r out
+met-long title out r over e = met title out out r _ (long title out (lt-ltb maxTitle (length title) over)) e refl
 
-module _ (title out buffer : List ℕ) (r : Composed) (scanned : Scanned title r buffer) (under : length title ≤ maxBytes) where
+module _ (title out buffer : List ℕ) (r : Composed) (scanned : Scanned title r buffer) (under : length title ≤ maxTitle) where
   pub met-refused : (r .number ≡ accepted → ⊥) → Leaves (composeOf title out) r out
   met-refused some =
       let not-all =
@@ -41,7 +41,7 @@ module _ (title out buffer : List ℕ) (r : Composed) (scanned : Scanned title r
       (λ all. some (ap (λ (x : Composed). x .number) (scanned .answered ∙ accepts-judged title all)))
       in
       met title out out r _
-      (refused title r out (le-ltb maxBytes (length title) under) not-all (sym (scanned .answered)))
+      (refused title r out (le-ltb maxTitle (length title) under) not-all (sym (scanned .answered)))
       refl
       refl
 
@@ -71,7 +71,7 @@ module _ (title out buffer : List ℕ) (r : Composed) (scanned : Scanned title r
     pub met-short : (r′ : Composed) → length out < r .length → r′ ≡ refusal noRoom 0 → Leaves (composeOf title out) r′ out
     met-short r′ less e =
         met title out out r′ _
-        (short title out (le-ltb maxBytes (length title) under) all (lt-ltb (length out) (length (text title)) (rw size at less)))
+        (short title out (le-ltb maxTitle (length title) under) all (lt-ltb (length out) (length (text title)) (rw size at less)))
         e
         refl
 
@@ -82,6 +82,6 @@ module _ (title out buffer : List ℕ) (r : Composed) (scanned : Scanned title r
         → Leaves (composeOf title out) r left
     met-taken left room e =
         met title out left r _
-        (taken title (text title) out (le-ltb maxBytes (length title) under) all refl (rw size at room))
+        (taken title (text title) out (le-ltb maxTitle (length title) under) all refl (rw size at room))
         whole
         (e ∙ rw (take-length (take (r .length) buffer), length-take-le (r .length) buffer in-buffer, scanned .front zero, size))

@@ -9,17 +9,17 @@ use lib.ListN.{length, take, drop, drop-of-length-le}
 use borrow.Author.Tests.{ne-eqb}
 use Rattle.unicode.specs.Utf8.{width, encode, encodes, front, decode}
 use Rattle.unicode.specs.Repertoire.{plain}
-use Rattle.unicode.specs.Joining.{joined, bad, pieces, outs, composed}
-use Rattle.titles.specs.Compose.{text, acceptance, judged}
-use Rattle.unicode.specs.Bounds.{at-least, at-most, width-2}
-use Rattle.unicode.specs.Decoding.{decode-end}
-use Rattle.unicode.specs.Rows.{joint}
-use Rattle.titles.specs.Pieces.{from, bad-at, one-at, two-at, next-fits, mark-fits, mark-width}
+use Rattle.unicode.specs.Joining.{joined, bad, clusters, outs, composed}
+use Rattle.titles.specs.Compose.{text, acceptance, answerFrom}
+use Rattle.unicode.specs.BoundsLaws.{at-least, at-most, width-2}
+use Rattle.unicode.specs.DecodingLaws.{decode-end}
+use Rattle.unicode.specs.PairsLaws.{joint}
+use Rattle.titles.specs.ClustersLaws.{from, bad-at, one-at, two-at, next-fits, mark-fits, mark-width}
 
 pub record Reached (s : List ℕ) (at n : ℕ) (room : List ℕ) : Type 0 where
   pub inside : at ≤ length s
   pub fits : n ≤ at
-  pub answer : judged 0 0 (pieces (decode s)) ≡ judged at n (from s at)
+  pub answer : answerFrom 0 0 (clusters (decode s)) ≡ answerFrom at n (from s at)
   pub written : text s ≡ take n room ++ encodes (outs (from s at))
 
 pub reached-start : (s room : List ℕ) → Reached s 0 0 room
@@ -35,7 +35,7 @@ whole-small l m w ew some =
     (omega (arith, ew), rw ew (width-2 (joined l m) (omega arith) (omega arith)))
 
 module _ (s : List ℕ) (at n c : ℕ) (room : List ℕ) (r : Reached s at n room) (more : at < length s) (is : c ≡ front (drop at s)) where
-  pub reached-bad : plain c ≡ false → judged at n (bad c ∷ []) ≡ judged 0 0 (pieces (decode s))
+  pub reached-bad : plain c ≡ false → answerFrom at n (bad c ∷ []) ≡ answerFrom 0 0 (clusters (decode s))
   reached-bad e = sym (r .answer ∙ rw (bad-at s at c more is e))
 
   module _ (e : plain c ≡ true) (k : ℕ) (room′ : List ℕ) where
@@ -44,7 +44,7 @@ module _ (s : List ℕ) (at n c : ℕ) (room : List ℕ) (r : Reached s at n roo
         → k ≡ n + width c
         → take k room′ ≡ take n room ++ encode c
         → Reached s (at + width c) k room′
-    unfolding judged outs encodes
+    unfolding answerFrom outs encodes
     reached-one none ek put =
         let step = one-at s at c more is e none in
         record {
@@ -62,7 +62,7 @@ module _ (s : List ℕ) (at n c : ℕ) (room : List ℕ) (r : Reached s at n roo
       two-fits = mark-fits s at c more is e m next joins
 
       pub reached-two : k ≡ n + width w → take k room′ ≡ take n room ++ encode w → Reached s ((at + width c) + 2) k room′
-      unfolding judged outs encodes
+      unfolding answerFrom outs encodes
       reached-two ek put =
           let step = two-at s at c more is e m next joins in
           let place : at + (width c + width m) ≡ (at + width c) + 2 = omega (arith, mark-width s at c more is e m next joins) in
@@ -73,17 +73,17 @@ module _ (s : List ℕ) (at n c : ℕ) (room : List ℕ) (r : Reached s at n roo
             fits = omega (arith, r .fits, whole-small c m w ew some .1);
             answer =
                 r .answer
-                ∙ ap (judged at n) step
-                ∙ ap (λ (p : ℕ). judged p (n + width (joined c m)) after) place
-                ∙ ap (λ (q : ℕ). judged ((at + width c) + 2) q after) count;
+                ∙ ap (answerFrom at n) step
+                ∙ ap (λ (p : ℕ). answerFrom p (n + width (joined c m)) after) place
+                ∙ ap (λ (q : ℕ). answerFrom ((at + width c) + 2) q after) count;
             written = r .written ∙ rw (step, put, ← ew, append-assoc);
           }
 
 -- at the end nothing is left to judge or to write
-pub reached-end : (s : List ℕ) (at n : ℕ) (room : List ℕ) → Reached s at n room → length s ≤ at → acceptance n ≡ judged 0 0 (pieces (decode s))
-unfolding judged pieces
+pub reached-end : (s : List ℕ) (at n : ℕ) (room : List ℕ) → Reached s at n room → length s ≤ at → acceptance n ≡ answerFrom 0 0 (clusters (decode s))
+unfolding answerFrom clusters
 reached-end s at n room r end = sym (r .answer ∙ rw (drop-of-length-le s end, decode-end [] (omega arith)))
 
 pub reached-all : (s : List ℕ) (at n : ℕ) (room : List ℕ) → Reached s at n room → length s ≤ at → take n room ≡ text s
-unfolding outs encodes pieces
+unfolding outs encodes clusters
 reached-all s at n room r end = sym (r .written ∙ rw (drop-of-length-le s end, decode-end [] (omega arith), append-nil))

@@ -8,10 +8,10 @@ use Rattle.outcomes.specs.Refusals.{notUtf8, outsideRepertoire, looseMark}
 use Rattle.unicode.specs.Utf8.{width, encode, encodes, within, low, high, tail, twoBytes, threeBytes, fourBytes, character, front, chars, decode}
 use Rattle.unicode.specs.Repertoire.{member, marks, isMark, plain}
 use Rattle.unicode.specs.Pairs.{found, pairs}
-use Rattle.unicode.specs.Joining.{joined, pieces, outs, noneBad, accepts, composed}
+use Rattle.unicode.specs.Joining.{joined, clusters, outs, noneBad, accepts, composed}
 use Rattle.outcomes.specs.Outcome.{still}
-use Rattle.titles.specs.Compose.{text, fault, refusal, judged, acceptedWith, composeOf}
-use Rattle.titles.specs.Outcomes.{taken, refused}
+use Rattle.titles.specs.Compose.{text, fault, refusal, answerFrom, acceptedWith, composeOf}
+use Rattle.titles.specs.ComposeLaws.{taken, refused}
 
 -- '45 CC 81 74 65 CC 81'
 abbrev pub loose : List ℕ
@@ -23,7 +23,7 @@ whole = 0xC3 ∷ 0x89 ∷ 0x74 ∷ 0xC3 ∷ 0xA9 ∷ []
 
 -- what a title is read as and composes to, with all of it open to computation
 computed : List ℕ → List ℕ
-unfolding width encode encodes within low high tail twoBytes threeBytes fourBytes character front chars decode member marks isMark plain found pairs joined pieces outs noneBad accepts composed text fault judged
+unfolding width encode encodes within low high tail twoBytes threeBytes fourBytes character front chars decode member marks isMark plain found pairs joined clusters outs noneBad accepts composed text fault answerFrom
 computed title = text title
 
 -- ● '45 CC 81 74 65 CC 81 composes to C3 89 74 C3 A9.'

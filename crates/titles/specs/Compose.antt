@@ -10,12 +10,12 @@ use Rattle.outcomes.specs.Outcome.{Output, still, over}
 use Rattle.outcomes.specs.Refusals.{accepted, noRoom, titleLong, notUtf8, outsideRepertoire, looseMark}
 use Rattle.unicode.specs.Utf8.{ill, width, encodes, decode}
 use Rattle.unicode.specs.Repertoire.{isMark, allPlain}
-use Rattle.unicode.specs.Joining.{joined, Piece, bad, one, two, pieces, accepts, composed}
+use Rattle.unicode.specs.Joining.{joined, Cluster, bad, one, two, clusters, accepts, composed}
 use Rattle.titles.specs.declared.composed.Composed.{Composed}
 
 -- 'The 511-byte limit is read on the title as given.'
-abbrev pub maxBytes : ℕ
-maxBytes = 511
+abbrev pub maxTitle : ℕ
+maxTitle = 511
 
 -- the composed bytes of a title
 unfoldable pub text : List ℕ → List ℕ
@@ -32,12 +32,12 @@ refusal n p = record { number = n; place = p; length = 0 }
 abbrev pub acceptance : ℕ → Composed
 acceptance n = record { number = accepted; place = 0; length = n }
 
--- the answer at pieces that start at byte p, with n bytes composed before: 'the first bad character', placed at its first byte
-unfoldable pub judged : ℕ → ℕ → List Piece → Composed
-judged p n [] = acceptance n
-judged p n (bad c ∷ ps) = refusal (fault c) p
-judged p n (one c ∷ ps) = judged (p + width c) (n + width c) ps
-judged p n (two l m ∷ ps) = judged (p + (width l + width m)) (n + width (joined l m)) ps
+-- the answer at clusters that start at byte p, with n bytes composed before: 'the first bad character', placed at its first byte
+unfoldable pub answerFrom : ℕ → ℕ → List Cluster → Composed
+answerFrom p n [] = acceptance n
+answerFrom p n (bad c ∷ ps) = refusal (fault c) p
+answerFrom p n (one c ∷ ps) = answerFrom (p + width c) (n + width c) ps
+answerFrom p n (two l m ∷ ps) = answerFrom (p + (width l + width m)) (n + width (joined l m)) ps
 
 -- an accepted title's composed bytes are written
 abbrev pub acceptedWith : List ℕ → List ℕ → Output Composed
@@ -46,8 +46,8 @@ acceptedWith t out = record { answer = acceptance (length t); left = over t out 
 -- 'Composer: 17, then the first bad character, 18 before 19 before 20 there, then 11.'
 abbrev pub composeTests : List ℕ → List ℕ → List (Bool × Output Composed)
 composeTests title out =
-    (ltb maxBytes (length title), still (refusal titleLong 0) out)
-    ∷ (not (accepts (decode title)), still (judged 0 0 (pieces (decode title))) out)
+    (ltb maxTitle (length title), still (refusal titleLong 0) out)
+    ∷ (not (accepts (decode title)), still (answerFrom 0 0 (clusters (decode title))) out)
     ∷ (ltb (length out) (length (text title)), still (refusal noRoom 0) out)
     ∷ []
 

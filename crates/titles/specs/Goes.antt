@@ -11,7 +11,7 @@ use Rattle.unicode.specs.Joining.{accepts}
 use Rattle.outcomes.specs.Refusals.{noRoom, titleLong, notUtf8, outsideRepertoire, looseMark}
 use Rattle.outcomes.specs.Outcome.{Output, still}
 use Rattle.titles.specs.declared.composed.Composed.{Composed}
-use Rattle.titles.specs.Compose.{text, refusal, acceptedWith, maxBytes}
+use Rattle.titles.specs.Compose.{text, refusal, acceptedWith, maxTitle}
 
 -- what a number says of the bytes at its place
 pub data Wrong : ℕ → List ℕ → Type 0 where
@@ -31,17 +31,17 @@ pub record FirstBad (title : List ℕ) (number place : ℕ) : Type 0 where
 
 pub data Goes (title out : List ℕ) : Output Composed → Type 0 where
   -- 'title over 511 bytes as given'
-  long : maxBytes < length title → Goes title out (still (refusal titleLong 0) out)
+  long : maxTitle < length title → Goes title out (still (refusal titleLong 0) out)
   -- 18, 19 and 20
-  wrong : length title ≤ maxBytes → (k p : ℕ) → FirstBad title k p → Goes title out (still (refusal k p) out)
+  wrong : length title ≤ maxTitle → (k p : ℕ) → FirstBad title k p → Goes title out (still (refusal k p) out)
   -- 'output too short'
   short :
-      length title ≤ maxBytes
+      length title ≤ maxTitle
       → accepts (decode title) ≡ true
       → length out < length (text title)
       → Goes title out (still (refusal noRoom 0) out)
   taken :
-      length title ≤ maxBytes
+      length title ≤ maxTitle
       → accepts (decode title) ≡ true
       → length (text title) ≤ length out
       → Goes title out (acceptedWith (text title) out)

@@ -13,17 +13,17 @@ use Rattle.lists.specs.TestsLaws.{and-left, and-right, and-both, either, clash,
 use Rattle.unicode.specs.Cons.{head}
 use Rattle.unicode.specs.Utf8.{ill, within, scalar, scalars, width, encode, encodes, front, decode}
 use Rattle.unicode.specs.Repertoire.{member, marks, isMark, plain, inRepertoire, allIn}
-use Rattle.unicode.specs.Joining.{joined, one, pieces, noneBad, accepts}
-use Rattle.unicode.specs.Sequences.{front-starts}
-use Rattle.unicode.specs.Encodings.{front-encode}
-use Rattle.unicode.specs.Decoding.{length-encode, decode-next, decode-end, decode-append, decode-encodes, ill-formed-none, behind}
-use Rattle.unicode.specs.Composes.{letter-plain, joins-mark, pieces-join}
+use Rattle.unicode.specs.Joining.{joined, one, clusters, noneBad, accepts}
+use Rattle.unicode.specs.SequencesLaws.{front-starts}
+use Rattle.unicode.specs.EncodingsLaws.{front-encode}
+use Rattle.unicode.specs.DecodingLaws.{length-encode, decode-next, decode-end, decode-append, decode-encodes, ill-formed-none, behind}
+use Rattle.unicode.specs.Composition.{letter-plain, joins-mark, clusters-join}
 use Rattle.unicode.specs.NfcTheorem.{accepts-in, mark-in}
-use Rattle.titles.specs.Compose.{text, fault, refusal, judged, composeOf, maxBytes}
+use Rattle.titles.specs.Compose.{text, fault, refusal, answerFrom, composeOf, maxTitle}
 use Rattle.titles.specs.Goes.{Wrong, broken, foreign, loose, FirstBad, Goes, long, wrong, short, taken}
-use Rattle.titles.specs.Outcomes as Outcomes
-use Rattle.titles.specs.Pieces.{pieces-bad}
-use Rattle.titles.specs.Titles.{plain-scalar, mark-scalar}
+use Rattle.titles.specs.ComposeLaws as Outcomes
+use Rattle.titles.specs.ClustersLaws.{clusters-bad}
+use Rattle.titles.specs.TitleTheorems.{plain-scalar, mark-scalar}
 
 -- the character behind some, of which c comes last
 next : List ℕ → ℕ → ℕ
@@ -41,27 +41,27 @@ halts-plain (here p) = p
 halts-plain (past p n h) = halts-plain h
 halts-plain (over n h) = halts-plain h
 
-pieces-past :
+clusters-past :
     (l c : ℕ) (pre xs : List ℕ)
     → plain l ≡ true
     → eqb (joined l (next pre c)) 0 ≡ true
-    → pieces (l ∷ (pre ++ c ∷ xs)) ≡ one l ∷ pieces (pre ++ c ∷ xs)
-unfolding pieces next
-pieces-past l c [] xs p n = rw (p, n)
-pieces-past l c (x ∷ pre) xs p n = rw (p, n)
+    → clusters (l ∷ (pre ++ c ∷ xs)) ≡ one l ∷ clusters (pre ++ c ∷ xs)
+unfolding clusters next
+clusters-past l c [] xs p n = rw (p, n)
+clusters-past l c (x ∷ pre) xs p n = rw (p, n)
 
 halts-taken : {pre : List ℕ} {c : ℕ} → Halts pre c → accepts pre ≡ true
-unfolding accepts noneBad pieces next
+unfolding accepts noneBad clusters next
 halts-taken (here p) = refl
 halts-taken (past {pre = []} p n h) = rw p
 halts-taken (past {pre = x ∷ pre} p n h) = rw (p, n) (halts-taken h)
-halts-taken (over {l} {m} {pre = pre} n h) = rw (pieces-join l m (joined l m) pre refl n) (halts-taken h)
+halts-taken (over {l} {m} {pre = pre} n h) = rw (clusters-join l m (joined l m) pre refl n) (halts-taken h)
 
 halts-bad : {pre : List ℕ} {c : ℕ} → Halts pre c → (xs : List ℕ) → accepts (pre ++ c ∷ xs) ≡ false
 unfolding accepts noneBad
-halts-bad (here {c} p) xs = rw (pieces-bad c xs p)
-halts-bad (past {l} {c} {pre} p n h) xs = rw (pieces-past l c pre xs p n) (halts-bad h xs)
-halts-bad (over {l} {m} {c} {pre} n h) xs = rw (pieces-join l m (joined l m) (pre ++ c ∷ xs) refl n) (halts-bad h xs)
+halts-bad (here {c} p) xs = rw (clusters-bad c xs p)
+halts-bad (past {l} {c} {pre} p n h) xs = rw (clusters-past l c pre xs p n) (halts-bad h xs)
+halts-bad (over {l} {m} {c} {pre} n h) xs = rw (clusters-join l m (joined l m) (pre ++ c ∷ xs) refl n) (halts-bad h xs)
 
 halts-scalars : {pre : List ℕ} {c : ℕ} → Halts pre c → scalars pre ≡ true
 unfolding scalars
@@ -75,15 +75,15 @@ halts-judged :
     {pre : List ℕ} {c : ℕ}
     → Halts pre c
     → (p n : ℕ) (xs : List ℕ)
-    → judged p n (pieces (pre ++ c ∷ xs)) ≡ refusal (fault c) (p + length (encodes pre))
-unfolding judged encodes
-halts-judged (here {c} q) p n xs = rw (pieces-bad c xs q, add-zero p)
+    → answerFrom p n (clusters (pre ++ c ∷ xs)) ≡ refusal (fault c) (p + length (encodes pre))
+unfolding answerFrom encodes
+halts-judged (here {c} q) p n xs = rw (clusters-bad c xs q, add-zero p)
 halts-judged (past {l} {c} {pre} q e h) p n xs =
-    rw (pieces-past l c pre xs q e)
+    rw (clusters-past l c pre xs q e)
     (halts-judged h (p + width l) (n + width l) xs
     ∙ ap (refusal (fault c)) (rw (length-append (encode l) (encodes pre), length-encode l) (omega arith)))
 halts-judged (over {l} {m} {c} {pre} e h) p n xs =
-    rw (pieces-join l m (joined l m) (pre ++ c ∷ xs) refl e)
+    rw (clusters-join l m (joined l m) (pre ++ c ∷ xs) refl e)
     (halts-judged h (p + (width l + width m)) (n + width (joined l m)) xs
     ∙ ap (refusal (fault c))
     (rw (
@@ -131,7 +131,7 @@ over-halted c m cs n g =
     }
 
 halted : (cs : List ℕ) → accepts cs ≡ false → Halted cs
-unfolding accepts pieces noneBad
+unfolding accepts clusters noneBad
 halted [] e = absurd (clash refl e)
 halted (c ∷ []) e = either (plain c) (λ p. absurd (clash refl (rw p at e))) (λ p. at-first c [] p)
 halted (c ∷ (m ∷ cs)) e =
@@ -220,7 +220,7 @@ placed title pre post c (b ∷ t) e left h =
 pub record Placed (title : List ℕ) : Type 0 where
   pub number : ℕ
   pub place : ℕ
-  pub same : judged 0 0 (pieces (decode title)) ≡ refusal number place
+  pub same : answerFrom 0 0 (clusters (decode title)) ≡ refusal number place
   pub first : FirstBad title number place
 
 pub first-bad : (title : List ℕ) → accepts (decode title) ≡ false → Placed title
@@ -231,7 +231,7 @@ first-bad title e =
       number = fault (g .c);
       place = length (encodes (g .pre));
       same =
-          ap (λ (cs : List ℕ). judged 0 0 (pieces cs)) (g .all)
+          ap (λ (cs : List ℕ). answerFrom 0 0 (clusters cs)) (g .all)
           ∙ halts-judged (g .halts) 0 0 (g .post)
           ∙ ap (refusal (fault (g .c))) (zero-add (length (encodes (g .pre))));
       first = placed title (g .pre) (g .post) (g .c) (r .rest) (r .bytes) (r .left) (g .halts);
@@ -276,10 +276,10 @@ first-bad-one {title} {k} {k′} {p} {p′} f g =
 
 pub compose-goes : (title out : List ℕ) → Goes title out (composeOf title out)
 compose-goes title out =
-    either (ltb maxBytes (length title))
-    (λ o. rw (Outcomes.long title out o) (long (ltb-true maxBytes (length title) o)))
+    either (ltb maxTitle (length title))
+    (λ o. rw (Outcomes.long title out o) (long (ltb-true maxTitle (length title) o)))
     (λ u.
-    let under = ltb-false maxBytes (length title) u in
+    let under = ltb-false maxTitle (length title) u in
     either (accepts (decode title))
     (λ a.
     either (ltb (length out) (length (text title)))

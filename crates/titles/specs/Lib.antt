@@ -6,8 +6,8 @@ pub mod Scan
 -- Document 01's marked cases, computed:
 pub mod Cases
 -- Theorems:
-pub mod Titles
+pub mod TitleTheorems
 pub mod GoesLaws
 -- The laws behind them:
-pub mod Pieces
-pub mod Outcomes
+pub mod ClustersLaws
+pub mod ComposeLaws

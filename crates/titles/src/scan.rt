@@ -1,4 +1,4 @@
-// One pass over a title: each piece is tested and composed.
+// One pass over a title: each cluster is tested and composed.
 use crate::composed::Composed;
 use characters::pairs;
 use characters::repertoire;
@@ -22,7 +22,7 @@ pub fn refused(number: usize, place: usize) -> Composed
     }
 }
 
-// What is wrong with a character that no piece starts with.
+// What is wrong with a character that no cluster starts with.
 fn fault_of(c: u32) -> usize
     ensures { λ r. ⌜ r ≡ fault c ⌝ }
 {

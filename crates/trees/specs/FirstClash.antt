@@ -115,8 +115,8 @@ module _ (H : List ℕ → List ℕ) where
         shared = c .0;
         one = x .0;
         two = y .0;
-        inFirst = x .1;
-        inSecond = y .1;
+        in-first = x .1;
+        in-second = y .1;
         differ = λ q. c .1 .texts .differ (sym (x .2) ∙ q ∙ y .2);
         first = answered a b (clash p) e;
       }
@@ -131,8 +131,8 @@ module _ (H : List ℕ → List ℕ) where
         record {
           one = prelabel (heads H (f .one));
           two = prelabel (heads H (f .two));
-          here = at-opened H a p (f .one) (f .inFirst);
-          there = at-opened H b p (f .two) (f .inSecond);
+          here = at-opened H a p (f .one) (f .in-first);
+          there = at-opened H b p (f .two) (f .in-second);
           differ = f .differ;
         },
       )

@@ -103,8 +103,8 @@ pub record FirstClash (H : List ℕ → List ℕ) (a b : Node) (p : Place) : Typ
   pub shared : Shared H a b p
   pub one : Run
   pub two : Run
-  pub inFirst : nodeAt a p ≡ some (inner one)
-  pub inSecond : nodeAt b p ≡ some (inner two)
+  pub in-first : nodeAt a p ≡ some (inner one)
+  pub in-second : nodeAt b p ≡ some (inner two)
   pub differ : prelabel (heads H one) ≢ prelabel (heads H two)
   pub first : (q : Place) → Clash H a b q → NotAfter p q
 

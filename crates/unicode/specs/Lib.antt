@@ -10,17 +10,17 @@ pub mod Vector
 pub mod Utf8Vectors
 pub mod NfcVectors
 -- Theorems:
-pub mod Decoding
+pub mod DecodingLaws
 pub mod NfcTheorem
 -- The laws behind them:
 pub mod Cons
-pub mod Bounds
-pub mod Fronts
-pub mod Sequences
-pub mod Encodings
-pub mod Rows
-pub mod Marks
-pub mod Composes
-pub mod Decomposed
-pub mod Ordered
-pub mod Composing
+pub mod BoundsLaws
+pub mod FrontsLaws
+pub mod SequencesLaws
+pub mod EncodingsLaws
+pub mod PairsLaws
+pub mod MarksLaws
+pub mod Composition
+pub mod DecompositionLaws
+pub mod OrderLaws
+pub mod CompositionLaws

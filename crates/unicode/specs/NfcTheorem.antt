@@ -7,11 +7,11 @@ use Rattle.lists.specs.TestsLaws.{and-right, and-both, same-test}
 use Rattle.unicode.specs.Repertoire.{isMark, plain, allPlain, inRepertoire, allIn}
 use Rattle.unicode.specs.Nfc.{decomposed, ordered, composedFrom, nfc}
 use Rattle.unicode.specs.Joining.{accepts, composed}
-use Rattle.unicode.specs.Marks.{mark-not-plain}
-use Rattle.unicode.specs.Composes.{Composes, done, stay, join, letter-plain, joins-mark, accepts-composes, composes-accepts, composes-composed, composes-plain, plain-composes}
-use Rattle.unicode.specs.Decomposed.{decomposed-composes, composes-decomposed}
-use Rattle.unicode.specs.Ordered.{ordered-same, composes-apart, apart-ordered}
-use Rattle.unicode.specs.Composing.{from-composes, composes-from}
+use Rattle.unicode.specs.MarksLaws.{mark-not-plain}
+use Rattle.unicode.specs.Composition.{Composes, done, stay, join, letter-plain, joins-mark, accepts-composes, composes-accepts, composes-composed, composes-plain, plain-composes}
+use Rattle.unicode.specs.DecompositionLaws.{decomposed-composes, composes-decomposed}
+use Rattle.unicode.specs.OrderLaws.{ordered-same, composes-apart, apart-ordered}
+use Rattle.unicode.specs.CompositionLaws.{from-composes, composes-from}
 
 -- the NFC of a text that composes is what it composes to
 composes-nfc : {cs os : List ℕ} → Composes cs os → nfc cs ≡ os

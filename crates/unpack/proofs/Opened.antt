@@ -8,14 +8,14 @@ use Rattle.tables.specs.Tables.{Table, table}
 use Rattle.slips.specs.declared.answer.Answer.{Answer}
 use Rattle.slips.specs.declared.open.Opened.{Opened}
 use Rattle.slips.specs.Check.{readingOf}
-use Rattle.slips.specs.Opening.{Opens}
+use Rattle.slips.specs.Opening.{OpenGives}
 use Rattle.outcomes.specs.Outcome.{Leaves}
 use Rattle.handing.specs.Handing.{handedOf}
 use Rattle.unpack.specs.Unpack.{tableOf}
 use Rattle.unpack.specs.CellsLaws.{table-back}
 
 -- the table opened is that of the rows read
-pub opened-table : {s : List ℕ} {r : Opened} {types counts lengths values labels : List ℕ} → Opens s r types counts lengths values labels
+pub opened-table : {s : List ℕ} {r : Opened} {types counts lengths values labels : List ℕ} → OpenGives s r types counts lengths values labels
     → r .rows ≤ length types → r .rows ≤ length counts → r .rows ≤ length lengths
     → table (take (r .rows) types) (take (r .rows) counts) (take (r .rows) lengths) (take (r .used) values) ≡ tableOf (readingOf s .rows)
 opened-table {s} {r} {types} {counts} {lengths} {values} o a b c =

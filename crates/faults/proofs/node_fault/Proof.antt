@@ -9,7 +9,7 @@ use lib.ListN.{length, take, drop, length-take, length-drop}
 use Rattle.outcomes.specs.Refusals.{saltBroken}
 use Rattle.trees.specs.Rows.{Tag, node, highestOf, kids, stepOf}
 use Rattle.titles.specs.Compose.{composedText}
-use Rattle.faults.specs.Waiting.{StackColumns, kindOf, heightOf, sizeOf, greatest, faultOf}
+use Rattle.faults.specs.Waiting.{StackColumns, kindOf, heightOf, sizeOf, greatest, stepFault}
 use Rattle.faults.specs.WaitingLaws.{kids-column, columns-long, greatest-is}
 use Rattle.faults.specs.Steps.{too-few, too-high, by-salt}
 use Rattle.faults.proofs.node_fault.Statement.{statement}
@@ -53,7 +53,7 @@ returns-2 c =
 -- both answers of the salt rule
 salt : (c : tie.After-salt-rule) (H : List ℕ → List ℕ) (st : List Tag) → let a = c .before .before .before .before .before .before .before .before .before .before .args in
     StackColumns st (now (a .kinds)) (now (a .heights)) (now (a .sizes))
-    → cond (c .salt-rule .result) 0 saltBroken ≡ faultOf (stepOf H composedText st (node (a .count)))
+    → cond (c .salt-rule .result) 0 saltBroken ≡ stepFault (stepOf H composedText st (node (a .count)))
 salt c H st cols =
     let a = c .before .before .before .before .before .before .before .before .before .before .args in
     let high = c .before .before .before .before .highest in

@@ -6,11 +6,11 @@ use Rattle.labels.proofs.label.Tie as tie
 
 finish-requires : tie.Need-finish-requires
 finish-requires c κs =
-    let held = c .grown .ensures [] (c .before .new .ensures) in
+    let held = c .absorbed .ensures [] (c .before .new .ensures) in
     omega arith
 
 returns : tie.Need-returns
-returns c = c .finish .ensures _ (c .before .grown .ensures [] (c .before .before .new .ensures))
+returns c = c .finish .ensures _ (c .before .absorbed .ensures [] (c .before .before .new .ensures))
 
 pub label-spec : {M : Type 1} → statement M
 label-spec =

@@ -5,20 +5,20 @@ use borrow.Author.Needs.{needs}
 use Rattle.labels.proofs.of_parts.Statement.{statement}
 use Rattle.labels.proofs.of_parts.Tie as tie
 
-grown-requires-2 : tie.Need-grown-requires-2
-grown-requires-2 c κs =
-    let held = c .grown .ensures [] (c .before .new .ensures) in
+absorbed-requires-2 : tie.Need-absorbed-requires-2
+absorbed-requires-2 c κs =
+    let held = c .absorbed .ensures [] (c .before .new .ensures) in
     omega arith
 
 finish-requires : tie.Need-finish-requires
 finish-requires c κs =
-    let held = c .grown2 .ensures _ (c .before .grown .ensures [] (c .before .before .new .ensures)) in
+    let held = c .absorbed2 .ensures _ (c .before .absorbed .ensures [] (c .before .before .new .ensures)) in
     omega (arith, simp length-append at (held .long))
 
 returns : tie.Need-returns
-returns c = c .finish .ensures _ (c .before .grown2 .ensures _ (c .before .before .grown .ensures [] (c .before .before .before .new .ensures)))
+returns c = c .finish .ensures _ (c .before .absorbed2 .ensures _ (c .before .before .absorbed .ensures [] (c .before .before .before .new .ensures)))
 
 pub of-parts-spec : {M : Type 1} → statement M
 of-parts-spec =
     tie.close
-    (tie.spec (λ c κs. search needs) (λ c κs. search needs) grown-requires-2 finish-requires returns)
+    (tie.spec (λ c κs. search needs) (λ c κs. search needs) absorbed-requires-2 finish-requires returns)

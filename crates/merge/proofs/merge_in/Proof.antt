@@ -5,7 +5,7 @@ use denote.Ref.{now}
 use Rattle.trees.specs.Nodes.{Node}
 use Rattle.trees.specs.Join.{join}
 use Rattle.sha2.specs.Sha256 as Sha256
-use Rattle.join_rows.specs.Plans.{Two}
+use Rattle.join_rows.specs.Plans.{TwoTables}
 use Rattle.join_rows.specs.TwoLaws.{counts-long, lengths-long}
 use Rattle.merge.proofs.Merging.{Unclashed, unclashed, clash-joined, plan-long, plan-table, plan-asks, large-joined, small-joined, two-few}
 use borrow.Author.Needs.{needs}
@@ -38,7 +38,7 @@ unclashed-at :
     (c : tie.After-plan)
     → c .plan .result .clash ≡ false
     → (a b : Node)
-    → Two Sha256.label a b (c .before .before .before .before .before .before .before .before .before .before .before .before .before .before .before .before .before .before .before .before .args .first) (now (c .before .before .before .before .before .before .before .before .before .before .before .before .before .before .before .before .before .before .before .before .args .types)) (now (c .before .before .before .before .before .before .before .before .before .before .before .before .before .before .before .before .before .before .before .before .args .counts)) (now (c .before .before .before .before .before .before .before .before .before .before .before .before .before .before .before .before .before .before .before .before .args .lengths)) (now (c .before .before .before .before .before .before .before .before .before .before .before .before .before .before .before .before .before .before .before .before .args .values)) (now (c .before .before .before .before .before .before .before .before .before .before .before .before .before .before .before .before .before .before .before .before .args .labels))
+    → TwoTables Sha256.label a b (c .before .before .before .before .before .before .before .before .before .before .before .before .before .before .before .before .before .before .before .before .args .first) (now (c .before .before .before .before .before .before .before .before .before .before .before .before .before .before .before .before .before .before .before .before .args .types)) (now (c .before .before .before .before .before .before .before .before .before .before .before .before .before .before .before .before .before .before .before .before .args .counts)) (now (c .before .before .before .before .before .before .before .before .before .before .before .before .before .before .before .before .before .before .before .before .args .lengths)) (now (c .before .before .before .before .before .before .before .before .before .before .before .before .before .before .before .before .before .before .before .before .args .values)) (now (c .before .before .before .before .before .before .before .before .before .before .before .before .before .before .before .before .before .before .before .before .args .labels))
     → Unclashed Sha256.label a b (c .plan .last .1 .1 .1 .1 .1 .1 .1 .1 .0) (c .plan .result) (join Sha256.label a b)
 unclashed-at c e a b h =
     unclashed Sha256.label a b (c .plan .last .1 .1 .1 .1 .1 .1 .1 .1 .0) (c .plan .result) (join Sha256.label a b) e (c .plan .ensures Sha256.label a b h)

@@ -11,7 +11,7 @@ use Rattle.codec.specs.Writing.{slipOf}
 use Rattle.slips.specs.declared.answer.Answer.{Answer}
 use Rattle.pack.specs.declared.Fault.{Fault}
 use Rattle.slips.specs.Answers.{refused, taken}
-use Rattle.pack.specs.Pack.{rowsOf, faultOf}
+use Rattle.pack.specs.Pack.{rowsOf, tableFault}
 use Rattle.pack.specs.PackLaws.{fault-told, values-few, answer-faulty, answer-long, answer-entry, answer-many, answer-roomless, answer-taken}
 use borrow.Author.Needs.{needs}
 use Rattle.pack.proofs.answer_of.Statement.{statement}
@@ -38,7 +38,7 @@ given c =
     table (now (a .types)) (now (a .counts)) (now (a .lengths)) (now (a .values))
 
 -- once the table is measured it has the form, and the bytes are the slip's
-told : (c : tie.After-size) → faultOf (given c) .number ≡ accepted
+told : (c : tie.After-size) → tableFault (given c) .number ≡ accepted
 told c = sym (ap (λ (f : Fault). f .number) (c .before .before .before .fault-of .ensures)) ∙ c .before .if1 .left
 
 well : (c : tie.After-size) → Formed (given c)

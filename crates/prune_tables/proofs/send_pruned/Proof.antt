@@ -6,7 +6,7 @@ use Rattle.sha2.specs.Sha256 as Sha256
 use Rattle.sha2.specs.Blocks.{label-long}
 use Rattle.trees.specs.Rows.{prunedRows}
 use Rattle.tables.specs.PruningList.{named, pruned}
-use Rattle.prune_rows.specs.Contracts.{Written, Prunes}
+use Rattle.prune_rows.specs.Contracts.{Written, PruneGives}
 use Rattle.prune_tables.specs.CutLaws.{written, pruned-table, root-kept}
 use Rattle.prune_tables.proofs.Pruning.{able, pickable, prunes}
 use borrow.Author.Needs.{needs}
@@ -30,7 +30,7 @@ prunes-at :
     (c : tie.After-pick)
     → let a = c .before .before .before .before .before .before .before .before .before .before .before .before .before .before .before .before .before .before .before .before .args in
     let p = c .pick in
-    Prunes (now (a .types)) (now (a .counts)) (now (a .lengths)) (now (a .values)) (now (a .labels)) (now (a .list)) (p .result .rows) (p .result .used) (p .last .1 .1 .1 .1 .1 .1 .0) (p .last .1 .1 .1 .1 .1 .1 .1 .0) (p .last .1 .1 .1 .1 .1 .1 .1 .1 .0) (p .last .1 .1 .1 .1 .1 .1 .1 .1 .1 .0)
+    PruneGives (now (a .types)) (now (a .counts)) (now (a .lengths)) (now (a .values)) (now (a .labels)) (now (a .list)) (p .result .rows) (p .result .used) (p .last .1 .1 .1 .1 .1 .1 .0) (p .last .1 .1 .1 .1 .1 .1 .1 .0) (p .last .1 .1 .1 .1 .1 .1 .1 .1 .0) (p .last .1 .1 .1 .1 .1 .1 .1 .1 .1 .0)
 prunes-at c = prunes (able (c .before .before .before .before .before .before .before .before .before .before .before .before .before .before .before .before .before .before .before .before .pre .0)) (c .before .before .before .before .before .before .before .mark-rows .ensures) (c .pick .ensures)
 
 table :

@@ -8,9 +8,9 @@ use lib.ListN.{length, drop}
 use Rattle.unicode.specs.Utf8.{decode}
 use Rattle.unicode.specs.Repertoire.{allPlain}
 use Rattle.titles.specs.Compose.{composedText}
-use Rattle.unicode.specs.Marks.{plain-small}
-use Rattle.unicode.specs.Decoding.{width-some}
-use Rattle.titles.specs.Pieces.{plain-at, not-plain-at, all-plain-end, next-fits}
+use Rattle.unicode.specs.MarksLaws.{plain-small}
+use Rattle.unicode.specs.DecodingLaws.{width-some}
+use Rattle.titles.specs.ClustersLaws.{plain-at, not-plain-at, all-plain-end, next-fits}
 use Rattle.titles.proofs.composed_text.Statement.{statement}
 use Rattle.titles.proofs.composed_text.Tie as tie
 

@@ -1,7 +1,7 @@
 -- `first` meets its contract: each branch is that of the first byte.
 use mathlib.Core.Path.{sym, _∙_}
 use borrow.Author.Needs.{needs}
-use Rattle.unicode.specs.Fronts.{front-1, front-2, front-3, front-4}
+use Rattle.unicode.specs.FrontsLaws.{front-1, front-2, front-3, front-4}
 use Rattle.utf8.proofs.first.Statement.{statement}
 use Rattle.utf8.proofs.first.Tie as tie
 

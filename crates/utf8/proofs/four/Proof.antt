@@ -5,7 +5,7 @@ use native.Mathlib.Omega.{arith}
 use borrow.Author.Needs.{needs}
 use borrow.Author.Tests.{not-true, not-false}
 use Rattle.unicode.specs.Utf8.{tail, fourBytes}
-use Rattle.unicode.specs.Bounds.{inside, above}
+use Rattle.unicode.specs.BoundsLaws.{inside, above}
 use Rattle.utf8.proofs.four.Statement.{statement}
 use Rattle.utf8.proofs.four.Tie as tie
 

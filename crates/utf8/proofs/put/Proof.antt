@@ -3,7 +3,7 @@ use Prim.Native.Nat.{_≤_, _<_, _+_, _/_}
 use native.Mathlib.Omega.{arith}
 use borrow.Author.Needs.{needs}
 use lib.ListN.{length, length-set}
-use Rattle.unicode.specs.Bounds.{width-1, width-2, encode-1, encode-2}
+use Rattle.unicode.specs.BoundsLaws.{width-1, width-2, encode-1, encode-2}
 use Rattle.lists.specs.PartsLaws.{one-more, take-stores}
 use Rattle.unicode.specs.Utf8.{follow}
 use Rattle.utf8.proofs.put.Statement.{statement}

@@ -5,7 +5,7 @@ use native.Mathlib.Omega.{arith}
 use borrow.Author.Needs.{needs}
 use borrow.Author.Tests.{not-true, not-false}
 use Rattle.unicode.specs.Utf8.{tail, threeBytes}
-use Rattle.unicode.specs.Bounds.{inside}
+use Rattle.unicode.specs.BoundsLaws.{inside}
 use Rattle.utf8.proofs.three.Statement.{statement}
 use Rattle.utf8.proofs.three.Tie as tie
 

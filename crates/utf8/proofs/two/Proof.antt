@@ -4,7 +4,7 @@ use native.Mathlib.Omega.{arith}
 use borrow.Author.Needs.{needs}
 use borrow.Author.Tests.{not-true, not-false}
 use Rattle.unicode.specs.Utf8.{tail, twoBytes}
-use Rattle.unicode.specs.Bounds.{inside, below}
+use Rattle.unicode.specs.BoundsLaws.{inside, below}
 use Rattle.utf8.proofs.two.Statement.{statement}
 use Rattle.utf8.proofs.two.Tie as tie
 

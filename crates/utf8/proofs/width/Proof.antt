@@ -1,7 +1,7 @@
 -- `width` meets its contract.
 use mathlib.Core.Path.{sym}
 use native.Mathlib.Omega.{arith}
-use Rattle.unicode.specs.Bounds.{width-1, width-2}
+use Rattle.unicode.specs.BoundsLaws.{width-1, width-2}
 use Rattle.utf8.proofs.width.Statement.{statement}
 use Rattle.utf8.proofs.width.Tie as tie
 

@@ -54,7 +54,7 @@ part-copy-end : tie.Need-part-copy-end Inv-loop μ-loop
 part-copy-end c =
     let k = c .before .before .before .before .row-at in
     let is = k .ensures .there (not-false _ (c .before .before .if1 .left)) in
-    omega (arith, is .fits, is .onward, c .before .before .before .before .before .before .loop .inv .0 .packed, c .before .before .before .before .before .before .loop .inv .4, c .before .before .before .before .before .before .before .before .before .before .before .before .pre .valuesRoom)
+    omega (arith, is .fits, is .onward, c .before .before .before .before .before .before .loop .inv .0 .packed, c .before .before .before .before .before .before .loop .inv .4, c .before .before .before .before .before .before .before .before .before .before .before .before .pre .values-room)
 
 copy-requires : tie.Need-copy-requires Inv-loop μ-loop
 copy-requires c κs =
@@ -63,7 +63,7 @@ copy-requires c κs =
     let l = c .before .before .before .before .before .before .before .loop in
     let n : ℕ = l .used + k .result .length - l .used in
     let long : length (take n (drop (l .used) (l .values))) ≡ k .result .length =
-    length-take-le n (drop (l .used) (l .values)) (omega (arith, length-drop (l .used) (l .values), is .fits, is .onward, l .inv .0 .packed, l .inv .4, c .before .before .before .before .before .before .before .before .before .before .before .before .before .pre .valuesRoom))
+    length-take-le n (drop (l .used) (l .values)) (omega (arith, length-drop (l .used) (l .values), is .fits, is .onward, l .inv .0 .packed, l .inv .4, c .before .before .before .before .before .before .before .before .before .before .before .before .before .pre .values-room))
     ∙ omega arith in
     omega (arith, long, is .fits)
 
@@ -86,8 +86,8 @@ loop-again c =
     let s = c .before .before .before .before .before .before .before .before .before .before .before .before .before .before .before .before in
     let l = c .before .before .before .before .before .before .before .before .before .before .loop in (
       went (l .inv .0) (k .result) _
-          (c .before .before .before .before .before .before .before .before .before .loop-test .taken) (omega (arith, s .pre .typesRoom, l .inv .1)) (omega (arith, s .pre .countsRoom, l .inv .2))
-          (omega (arith, s .pre .lengthsRoom, l .inv .3)) (omega (arith, s .pre .valuesRoom, l .inv .4)) is (c .before .before .copy .ensures),
+          (c .before .before .before .before .before .before .before .before .before .loop-test .taken) (omega (arith, s .pre .types-room, l .inv .1)) (omega (arith, s .pre .counts-room, l .inv .2))
+          (omega (arith, s .pre .lengths-room, l .inv .3)) (omega (arith, s .pre .values-room, l .inv .4)) is (c .before .before .copy .ensures),
       simp length-set (omega (arith, l .inv .1)),
       simp length-set (omega (arith, l .inv .2)),
       simp length-set (omega (arith, l .inv .3)),
@@ -99,10 +99,10 @@ returns c =
     let s = c .before .before .before .before .before .before .before in
     let l = c .before .loop in
     let p = s .pre in
-    let hT : s .args .n ≤ length (l .types) = omega (arith, p .typesRoom, l .inv .1) in
-    let hC : s .args .n ≤ length (l .counts) = omega (arith, p .countsRoom, l .inv .2) in
-    let hL : s .args .n ≤ length (l .lengths) = omega (arith, p .lengthsRoom, l .inv .3) in
-    let hV : length (s .args .s .now) ≤ length (l .values) = omega (arith, p .valuesRoom, l .inv .4) in
+    let hT : s .args .n ≤ length (l .types) = omega (arith, p .types-room, l .inv .1) in
+    let hC : s .args .n ≤ length (l .counts) = omega (arith, p .counts-room, l .inv .2) in
+    let hL : s .args .n ≤ length (l .lengths) = omega (arith, p .lengths-room, l .inv .3) in
+    let hV : length (s .args .s .now) ≤ length (l .values) = omega (arith, p .values-room, l .inv .4) in
     ⊎-elim
     (λ w. ended-whole (l .inv .0) (w .left) hT hC hL hV)
     (λ w. ended-short (l .inv .0) (w .0 .taken)

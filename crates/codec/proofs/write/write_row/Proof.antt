@@ -7,7 +7,7 @@ use borrow.Author.Needs.{needs}
 use lib.ListN.{length, length-append}
 use Rattle.bits.specs.Bits.{bitsIn, bitsOf}
 use Rattle.bits.specs.FieldLaws.{length-bitsIn}
-use Rattle.bits.specs.Ink.{Room, Wrote}
+use Rattle.bits.specs.Ink.{PutAsks, PutGives}
 use Rattle.bits.specs.InkLaws.{wrote-both, room-less, room-after}
 use Rattle.tables.specs.Limits.{childBits, typeBits, lengthBits}
 use Rattle.tables.specs.Tables.{entryOf}
@@ -33,7 +33,7 @@ put-requires c κs =
     let n : ℕ = s .args .count in
     let v : List ℕ = s .args .value .now in
     let long : length (entryBits (entryOf t n v)) ≡ 1 + childBits = entry-long t n v ∙ node-bits t n (length v) (c .before .if1 .taken) in
-    (subst (λ (k : ℕ). Room (s .args .pen) k (s .args .out .now)) long (s .pre .1), omega arith, omega (arith, row-small t n (length v) (s .pre .0) .count))
+    (subst (λ (k : ℕ). PutAsks (s .args .pen) k (s .args .out .now)) long (s .pre .1), omega arith, omega (arith, row-small t n (length v) (s .pre .0) .count))
 
 returns : tie.Need-returns
 returns c =
@@ -41,7 +41,7 @@ returns c =
     let t : ℕ = s .args .kind in
     let n : ℕ = s .args .count in
     let v : List ℕ = s .args .value .now in
-    subst (λ (l : List ℕ). Wrote (s .args .pen) (s .args .out .now) l (c .before .before .put .result) (c .before .before .put .last .1 .1 .1 .0))
+    subst (λ (l : List ℕ). PutGives (s .args .pen) (s .args .out .now) l (c .before .before .put .result) (c .before .before .put .last .1 .1 .1 .0))
     (steps.node-bits t n v (c .before .before .before .before .if1 .taken) (row-small t n (length v) (s .pre .0) .count)) (c .before .before .put .ensures)
 
 put-requires-2 : tie.Need-put-requires-2
@@ -65,7 +65,7 @@ put-bytes-requires c κs =
     let long : length (entryBits (entryOf t n v)) ≡ length (bitsIn (1 + typeBits) t) + 8 * length v =
     omega (arith, entry-long t n v, dangling-bits t n (length v) none (c .before .if2 .taken), length-bitsIn (1 + typeBits) t) in
     room-after (s .args .pen) (s .args .out .now) (bitsIn (1 + typeBits) t) (w .result) (w .last .1 .1 .1 .0) (8 * length v)
-    (subst (λ (k : ℕ). Room (s .args .pen) k (s .args .out .now)) long (s .pre .1)) (w .ensures) (w .kept .1 .1 .1 .0)
+    (subst (λ (k : ℕ). PutAsks (s .args .pen) k (s .args .out .now)) long (s .pre .1)) (w .ensures) (w .kept .1 .1 .1 .0)
 
 returns-2 : tie.Need-returns-2
 returns-2 c =
@@ -76,7 +76,7 @@ returns-2 c =
     let a = c .before .before .before .before .before .before .before .put2 in
     let z = c .before .before .put-bytes in
     let none : n ≡ 0 = omega (arith, c .before .before .before .before .before .before .before .before .before .if1 .left) in
-    subst (λ (l : List ℕ). Wrote (s .args .pen) (s .args .out .now) l (z .result) (z .last .1 .1 .0)) (steps.dangling-bits t n v (c .before .before .before .before .if2 .taken) none)
+    subst (λ (l : List ℕ). PutGives (s .args .pen) (s .args .out .now) l (z .result) (z .last .1 .1 .0)) (steps.dangling-bits t n v (c .before .before .before .before .if2 .taken) none)
     (wrote-both (s .args .pen) (s .args .out .now) (bitsIn (1 + typeBits) t) (a .result) (a .last .1 .1 .1 .0) (bitsOf v) (z .result) (z .last .1 .1 .0)
     (a .ensures) (z .ensures))
 
@@ -120,7 +120,7 @@ put-bytes-requires-2 c κs =
       length-bitsIn lengthBits (length v),
     ) in
     room-after (s .args .pen) (s .args .out .now) (both v t) (w .result) (w .last .1 .1 .1 .0) (8 * length v)
-    (subst (λ (k : ℕ). Room (s .args .pen) k (s .args .out .now)) long (s .pre .1))
+    (subst (λ (k : ℕ). PutAsks (s .args .pen) k (s .args .out .now)) long (s .pre .1))
     (wrote-both (s .args .pen) (s .args .out .now) (bitsIn (1 + typeBits) t) (a .result) (a .last .1 .1 .1 .0) (bitsIn lengthBits (length v)) (w .result) (w .last .1 .1 .1 .0)
     (a .ensures) (w .ensures))
     (w .kept .1 .1 .1 .0 ∙ a .kept .1 .1 .1 .0)
@@ -135,7 +135,7 @@ returns-3 c =
     let w = c .before .before .before .before .before .before .put3 in
     let z = c .before .before .put-bytes2 in
     let none : n ≡ 0 = omega (arith, c .before .before .before .before .before .before .before .before .before .before .before .before .before .if1 .left) in
-    subst (λ (l : List ℕ). Wrote (s .args .pen) (s .args .out .now) l (z .result) (z .last .1 .1 .0))
+    subst (λ (l : List ℕ). PutGives (s .args .pen) (s .args .out .now) l (z .result) (z .last .1 .1 .0))
     (steps.pair-bits t n v (omega (arith, c .before .before .before .before .before .before .before .before .if2 .left)) (omega (arith, row-small t n (length v) (s .pre .0) .type)) none)
     (wrote-both (s .args .pen) (s .args .out .now) (both v t) (w .result) (w .last .1 .1 .1 .0) (bitsOf v) (z .result) (z .last .1 .1 .0)
     (wrote-both (s .args .pen) (s .args .out .now) (bitsIn (1 + typeBits) t) (a .result) (a .last .1 .1 .1 .0) (bitsIn lengthBits (length v)) (w .result) (w .last .1 .1 .1 .0)

@@ -4,7 +4,7 @@ use lib.ListN.{length}
 use borrow.Author.Tests.{not-true, not-false}
 use mathlib.Core.Path.{_≡_, sym, _∙_}
 use native.Mathlib.Omega.{arith}
-use Rattle.columns.specs.Columns.{headAt, headsBack, agree}
+use Rattle.columns.specs.Columns.{headAt, headsBack, headsAgree}
 use Rattle.columns.specs.ColumnsLaws.{some-left}
 use Rattle.columns.proofs.Comparing.{ready-labelled, agree-over, agree-step}
 use borrow.Author.Needs.{needs}
@@ -14,9 +14,9 @@ use Rattle.columns.proofs.heads.same_heads.Tie as tie
 abbrev Inv-loop : tie.InvT-loop
 Inv-loop types counts lengths values labels starts offsets count i j k₀ e₀ f₀ k e f =
     (e ≤ length types) × (f ≤ length types)
-    × (agree (headsBack (headAt types counts lengths values labels offsets) starts count i)
+    × (headsAgree (headsBack (headAt types counts lengths values labels offsets) starts count i)
     (headsBack (headAt types counts lengths values labels offsets) starts count j)
-    ≡ agree (headsBack (headAt types counts lengths values labels offsets) starts k e)
+    ≡ headsAgree (headsBack (headAt types counts lengths values labels offsets) starts k e)
     (headsBack (headAt types counts lengths values labels offsets) starts k f))
 
 abbrev μ-loop : tie.MeasureT-loop

@@ -97,11 +97,11 @@ returns c =
     (c .before .before .before .before .before .before .before .before .before .before .loop-test .taken) (c .before .before .before .before .before .before .before .before .before .cell .ensures .0) (c .before .before .before .before .before .before .before .before .cell2 .ensures .0) (c .before .before .before .before .before .before .before .cell3 .ensures .0)
     (f .result) (f .ensures Sha256.label (l .inv .going .st) (l .inv .going .laid .columns)) (c .before .if1 .taken) (c .refused .ensures)
 
-part-grown-end : tie.Need-part-grown-end Inv-loop μ-loop
-part-grown-end c = omega (arith, row-end (c .before .before .before .before .before .before))
+part-grow-end : tie.Need-part-grow-end Inv-loop μ-loop
+part-grow-end c = omega (arith, row-end (c .before .before .before .before .before .before))
 
-grown-requires : tie.Need-grown-requires Inv-loop μ-loop
-grown-requires c κs =
+grow-requires : tie.Need-grow-requires Inv-loop μ-loop
+grow-requires c κs =
     let a = c .before .before .before .before .before .before .before .before .before .before .before .before .before .before .before .before .before .before .before .before .before .before .before .before .before .before .args in
     let l = c .before .before .before .before .before .before .before .before .before .before .before .before .before .before .before .before .loop in
     ready (now (a .types)) (now (a .counts)) (now (a .lengths)) (now (a .values)) (l .i) (l .at) (l .inv .lent) (l .inv .going)
@@ -119,7 +119,7 @@ loop-again c =
     let a = c .before .before .before .before .before .before .before .before .before .before .before .before .before .before .before .before .before .before .before .before .before .before .before .before .before .before .before .before .before .before .before .before .before .before .before .before .before .args in
     let l = c .before .before .before .before .before .before .before .before .before .before .before .before .before .before .before .before .before .before .before .before .before .before .before .before .before .before .before .loop in
     let t = l .inv in
-    let g = c .before .before .before .before .before .before .before .before .before .before .grown in
+    let g = c .before .before .before .before .before .before .before .before .before .before .grow in
     record {
       some = omega (arith, c .before .before .before .before .before .before .before .before .before .before .before .before .before .before .before .before .before .before .before .before .before .before .before .before .before .before .loop-test .taken);
       kinds-same = g .kept .1 .1 .1 .1 .1 .0 ∙ t .kinds-same;
@@ -159,7 +159,7 @@ judge-in-spec =
     part-fault-end slice-reshare-prefix-fault slice-aggregate-fault slice-reshare-prefix-fault-2 slice-aggregate-fault-2 slice-reshare-prefix-fault-3
     slice-aggregate-fault-3 fault-requires (λ c κs. search needs)
     (λ c. c .before .before .before .before .before .before .before .before .before .before .before .loop .inv .kinds-same) (λ c. c .before .before .before .before .before .before .before .before .before .before .before .loop .inv .heights-same) (λ c. c .before .before .before .before .before .before .before .before .before .before .before .loop .inv .sizes-same)
-    (λ c. c .before .before .before .before .before .before .before .before .before .before .before .loop .inv .work-same) (λ c. c .before .before .before .before .before .before .before .before .before .before .before .loop .inv .labels-same) returns (λ c. search needs) (λ c. search needs) part-grown-end
-    grown-requires add-i loop-less loop-again settled-requires
+    (λ c. c .before .before .before .before .before .before .before .before .before .before .before .loop .inv .work-same) (λ c. c .before .before .before .before .before .before .before .before .before .before .before .loop .inv .labels-same) returns (λ c. search needs) (λ c. search needs) part-grow-end
+    grow-requires add-i loop-less loop-again settled-requires
     (λ c. c .before .before .before .before .loop .inv .kinds-same) (λ c. c .before .before .before .before .loop .inv .heights-same) (λ c. c .before .before .before .before .loop .inv .sizes-same)
     (λ c. c .before .before .before .before .loop .inv .work-same) (λ c. c .before .before .before .before .loop .inv .labels-same) returns-2)

@@ -12,7 +12,7 @@ use Rattle.lists.specs.TestsLaws.{and-left, and-right}
 use Rattle.trees.specs.Nodes.{headBytes}
 use Rattle.trees.specs.Rules.{labelBytes}
 use Rattle.engine.specs.Engine.{noLabel}
-use Rattle.engine.specs.Judging.{Stands}
+use Rattle.engine.specs.Judging.{SettledAsks}
 use Rattle.stack.specs.declared.Stack.{Stack}
 use Rattle.lists.specs.PartsLaws.{copied}
 use Rattle.engine.proofs.Telling.{answer, one-is, told-one, told-none}
@@ -20,7 +20,7 @@ use Rattle.engine.proofs.judge.settled.Statement.{statement}
 use Rattle.engine.proofs.judge.settled.Tie as tie
 
 -- a node that waits alone, of type 0, has a whole label
-whole : (s : Stack) {kinds work : List ℕ} {one : Bool} → Stands s kinds work → one ≡ (eqb (s .depth) 1 && eqb (getD kinds 0 0) 0) → one ≡ true → s .top ≡ headBytes + labelBytes
+whole : (s : Stack) {kinds work : List ℕ} {one : Bool} → SettledAsks s kinds work → one ≡ (eqb (s .depth) 1 && eqb (getD kinds 0 0) 0) → one ≡ true → s .top ≡ headBytes + labelBytes
 whole s {kinds} p e o =
     let both : (eqb (s .depth) 1 && eqb (getD kinds 0 0) 0) ≡ true = sym e ∙ o in
     p .root (eqb-true (s .depth) 1 (and-left (eqb (s .depth) 1) (eqb (getD kinds 0 0) 0) both)) (eqb-true (getD kinds 0 0) 0 (and-right (eqb (s .depth) 1) (eqb (getD kinds 0 0) 0) both))

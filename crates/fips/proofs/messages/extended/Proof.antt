@@ -9,18 +9,18 @@ use borrow.Author.Needs.{needs}
 use Rattle.fips.proofs.messages.extended.Statement.{statement}
 use Rattle.fips.proofs.messages.extended.Tie as tie
 
-slice-aggregate-grown : tie.Need-slice-aggregate-grown
-slice-aggregate-grown c = sym (length-take-le _ _ (omega arith))
+slice-aggregate-absorbed : tie.Need-slice-aggregate-absorbed
+slice-aggregate-absorbed c = sym (length-take-le _ _ (omega arith))
 
-grown-requires : tie.Need-grown-requires
-grown-requires c κs = simp length-take (omega arith)
+absorbed-requires : tie.Need-absorbed-requires
+absorbed-requires c κs = simp length-take (omega arith)
 
 returns : tie.Need-returns
 returns c =
     let k = c .before .before .before .decoded in
-    (k .ensures .0, λ e t h. subst (λ (l : List ℕ). Holds (c .grown .result) (t ++ l)) (k .ensures .1 e) (c .grown .ensures t h))
+    (k .ensures .0, λ e t h. subst (λ (l : List ℕ). Holds (c .absorbed .result) (t ++ l)) (k .ensures .1 e) (c .absorbed .ensures t h))
 
 pub extended-spec : {M : Type 1} → statement M
 extended-spec =
     tie.close
-    (tie.spec (λ c. search needs) (λ c κs. search needs) (λ c. search needs) slice-aggregate-grown grown-requires returns)
+    (tie.spec (λ c. search needs) (λ c κs. search needs) (λ c. search needs) slice-aggregate-absorbed absorbed-requires returns)

@@ -6,7 +6,7 @@ use mathlib.Core.Path.{_≡_, sym, _∙_, subst}
 use native.Mathlib.Omega.{arith}
 use Rattle.columns.specs.Columns.{headAt}
 use Rattle.columns.specs.ColumnsLaws.{some-left}
-use Rattle.join_rows.specs.Walks.{NodeWalk, RunWalk}
+use Rattle.join_rows.specs.Walks.{NodeGives, RunGives}
 use Rattle.join_rows.specs.Meets.{taken-row}
 use Rattle.join_rows.specs.RunSteps.{earlier-at, none-said, run-said}
 use Rattle.join_rows.proofs.Meeting.{node-clash, node-take, node-both}
@@ -109,7 +109,7 @@ node-returns : (t : ℕ) → node-lts.Need-returns (node-claims t) (node-at t) n
 node-returns t c =
     let a = c .before .before .before .before .before .before .before .before .before .before .before .before .args in
     let m = c .before .before .before .meet in
-    subst (NodeWalk (now (a .types)) (now (a .counts)) (now (a .lengths)) (now (a .values)) (now (a .labels)) (now (a .starts)) (now (a .offsets))
+    subst (NodeGives (now (a .types)) (now (a .counts)) (now (a .lengths)) (now (a .values)) (now (a .labels)) (now (a .starts)) (now (a .offsets))
     (now (a .plan)) (now (a .plan)) (a .i) (a .j) (a .at)) (sym (c .clashed .ensures))
     (node-clash (now (a .types)) (now (a .counts)) (now (a .lengths)) (now (a .values)) (now (a .labels)) (now (a .starts)) (now (a .offsets)) (now
     (a .plan)) (a .i) (a .j) (a .at) (m .result) (m .ensures) (c .before .enum-told .given .1))
@@ -118,7 +118,7 @@ node-returns-2 : (t : ℕ) → node-lts.Need-returns-2 (node-claims t) (node-at 
 node-returns-2 t c =
     let a = c .before .before .before .before .before .before .before .before .before .before .before .before .before .before .before .before .before .before .args in
     let m = c .before .before .before .before .before .before .before .before .before .meet in
-    subst (NodeWalk (now (a .types)) (now (a .counts)) (now (a .lengths)) (now (a .values)) (now (a .labels)) (now (a .starts)) (now (a .offsets))
+    subst (NodeGives (now (a .types)) (now (a .counts)) (now (a .lengths)) (now (a .values)) (now (a .labels)) (now (a .starts)) (now (a .offsets))
     (now (a .plan)) _ (a .i) (a .j) (a .at)) (sym (c .unclashed .ensures))
     (node-take (now (a .types)) (now (a .counts)) (now (a .lengths)) (now (a .values)) (now (a .labels)) (now (a .starts)) (now (a .offsets)) (now
     (a .plan)) _ (a .i) (a .j) (a .at) _ _ (m .result) (m .ensures) (c .before .before .before .before .before .before .before .meeting .given .1)
@@ -143,7 +143,7 @@ left t c = let a = c .before .before .before .before .before .before .before .be
 run-returns : (t : ℕ) → run-lts.Need-returns (run-claims t) (run-at t) run.Post
 run-returns t c =
     let a = c .before .before .before .before .before .before .before .before .before .before .before .args in
-    subst (RunWalk (now (a .types)) (now (a .counts)) (now (a .lengths)) (now (a .values)) (now (a .labels)) (now (a .starts)) (now (a .offsets))
+    subst (RunGives (now (a .types)) (now (a .counts)) (now (a .lengths)) (now (a .values)) (now (a .labels)) (now (a .starts)) (now (a .offsets))
     (now (a .plan)) (now (a .plan)) (a .e) (a .f) (a .count) (a .at)) (sym (c .unclashed .ensures))
     (record {
       low = omega arith;
@@ -197,7 +197,7 @@ run-returns-2 t c =
     let a = c .before .before .before .before .before .before .before .before .before .before .before .before .before .before .before .before .before .before .before .before .before .args in
     let n = c .before .before .before .before .before .before .before .before .before .node in
     let r = c .before .before .before .run in
-    subst (RunWalk (now (a .types)) (now (a .counts)) (now (a .lengths)) (now (a .values)) (now (a .labels)) (now (a .starts)) (now (a .offsets))
+    subst (RunGives (now (a .types)) (now (a .counts)) (now (a .lengths)) (now (a .values)) (now (a .labels)) (now (a .starts)) (now (a .offsets))
     (now (a .plan)) _ (a .e) (a .f) (a .count) (a .at)) (sym (c .earlier .ensures))
     (record {
       low = omega (arith, earlier-at (r .result) (n .result), n .ensures .low, r .ensures .low);

@@ -6,7 +6,7 @@ use borrow.Author.Needs.{needs}
 use lib.ListN.{drop, drop-of-length-le}
 use lib.Seq.{getD-drop}
 use Rattle.unicode.specs.Joining.{joined}
-use Rattle.titles.specs.Pieces.{no-mark}
+use Rattle.titles.specs.ClustersLaws.{no-mark}
 use Rattle.titles.proofs.scan.joined_at.Statement.{statement}
 use Rattle.titles.proofs.scan.joined_at.Tie as tie
 

@@ -1,4 +1,4 @@
--- `scan` meets its contract: each turn goes one piece further.
+-- `scan` meets its contract: each turn goes one cluster further.
 use mathlib.Core.Path.{_≡_, refl, sym, _∙_, ap}
 use mathlib.Core.Bool.{true}
 use Prim.Native.Nat.{_≤_, _+_, _-_}
@@ -8,11 +8,11 @@ use borrow.Author.Tests.{not-true, not-false}
 use lib.ListN.{length}
 use Rattle.unicode.specs.Utf8.{width}
 use Rattle.unicode.specs.Repertoire.{plain}
-use Rattle.unicode.specs.Marks.{plain-small}
-use Rattle.unicode.specs.Decoding.{width-some}
-use Rattle.titles.specs.Compose.{judged}
-use Rattle.titles.specs.Outcomes.{fault-some}
-use Rattle.titles.specs.Pieces.{next-fits}
+use Rattle.unicode.specs.MarksLaws.{plain-small}
+use Rattle.unicode.specs.DecodingLaws.{width-some}
+use Rattle.titles.specs.Compose.{answerFrom}
+use Rattle.titles.specs.ComposeLaws.{fault-some}
+use Rattle.titles.specs.ClustersLaws.{next-fits}
 use Rattle.titles.proofs.Reached.{Reached, reached-start, reached-bad, reached-one, reached-two, two-fits, reached-end, reached-all, whole-small}
 use Rattle.titles.specs.declared.composed.Composed.{Composed}
 use Rattle.titles.proofs.scan.scan.Statement.{statement}
@@ -28,7 +28,7 @@ loop-holds : tie.Need-loop-holds Inv-loop μ-loop
 loop-holds c = (refl, reached-start _ _)
 
 returns : tie.Need-returns Inv-loop μ-loop
-unfolding judged
+unfolding answerFrom
 returns c =
     let l = c .before .before .before .before .before .before .loop in
     let f = c .before .before .before .before .first in

@@ -7,9 +7,9 @@ use Prim.Native.Nat.{ℕ}
 use lib.Dec.{eqb}
 use Rattle.lists.specs.TestsLaws.{and-left, and-right, and-both, either, clash}
 use Rattle.unicode.specs.Repertoire.{isMark, plain, allPlain}
-use Rattle.unicode.specs.Joining.{joined, one, two, pieces, outs, noneBad, accepts, composed}
-use Rattle.unicode.specs.Rows.{joint}
-use Rattle.unicode.specs.Marks.{plain-no-mark, ascii-plain, latin-plain}
+use Rattle.unicode.specs.Joining.{joined, one, two, clusters, outs, noneBad, accepts, composed}
+use Rattle.unicode.specs.PairsLaws.{joint}
+use Rattle.unicode.specs.MarksLaws.{plain-no-mark, ascii-plain, latin-plain}
 
 pub data Composes : List ℕ → List ℕ → Type 0 where
   done : Composes [] []
@@ -32,7 +32,7 @@ plain-no-join l c p =
     either (eqb (joined l c) 0) (λ e. e) (λ e. absurd (clash (joins-mark l c (joined l c) refl e) (plain-no-mark c p)))
 
 pub accepts-composes : (cs : List ℕ) → accepts cs ≡ true → Composes cs (composed cs)
-unfolding accepts composed pieces noneBad outs
+unfolding accepts composed clusters noneBad outs
 accepts-composes [] e = done
 accepts-composes (c ∷ []) e = either (plain c) (λ p. rw p (stay p done)) (λ p. absurd (clash (rw p at e) refl))
 accepts-composes (c ∷ (m ∷ cs)) e =
@@ -43,27 +43,27 @@ accepts-composes (c ∷ (m ∷ cs)) e =
     (λ q. rw (p, q) (join refl q (accepts-composes cs (rw (p, q) at e)))))
     (λ p. absurd (clash (rw p at e) refl))
 
-pieces-stay : {cs os : List ℕ} (c : ℕ) → plain c ≡ true → Composes cs os → pieces (c ∷ cs) ≡ one c ∷ pieces cs
-unfolding pieces
-pieces-stay c p done = rw p
-pieces-stay c p (stay {c = c′} q h) = rw (p, plain-no-join c c′ q)
-pieces-stay c p (join {l} {m} {w} e n h) = rw (p, plain-no-join c l (letter-plain l m w e n))
+clusters-stay : {cs os : List ℕ} (c : ℕ) → plain c ≡ true → Composes cs os → clusters (c ∷ cs) ≡ one c ∷ clusters cs
+unfolding clusters
+clusters-stay c p done = rw p
+clusters-stay c p (stay {c = c′} q h) = rw (p, plain-no-join c c′ q)
+clusters-stay c p (join {l} {m} {w} e n h) = rw (p, plain-no-join c l (letter-plain l m w e n))
 
-pub pieces-join : (l m w : ℕ) (cs : List ℕ) → joined l m ≡ w → eqb w 0 ≡ false → pieces (l ∷ (m ∷ cs)) ≡ two l m ∷ pieces cs
-unfolding pieces
-pieces-join l m w cs e n = rw (letter-plain l m w e n, e, n)
+pub clusters-join : (l m w : ℕ) (cs : List ℕ) → joined l m ≡ w → eqb w 0 ≡ false → clusters (l ∷ (m ∷ cs)) ≡ two l m ∷ clusters cs
+unfolding clusters
+clusters-join l m w cs e n = rw (letter-plain l m w e n, e, n)
 
 pub composes-accepts : {cs os : List ℕ} → Composes cs os → accepts cs ≡ true
-unfolding accepts noneBad pieces
+unfolding accepts noneBad clusters
 composes-accepts done = refl
-composes-accepts (stay {c} p h) = rw (pieces-stay c p h) (composes-accepts h)
-composes-accepts (join {l} {m} {w} {cs} e n h) = rw (pieces-join l m w cs e n) (composes-accepts h)
+composes-accepts (stay {c} p h) = rw (clusters-stay c p h) (composes-accepts h)
+composes-accepts (join {l} {m} {w} {cs} e n h) = rw (clusters-join l m w cs e n) (composes-accepts h)
 
 pub composes-composed : {cs os : List ℕ} → Composes cs os → composed cs ≡ os
-unfolding composed outs pieces
+unfolding composed outs clusters
 composes-composed done = refl
-composes-composed (stay {c} p h) = rw (pieces-stay c p h, composes-composed h)
-composes-composed (join {l} {m} {w} {cs} e n h) = rw (pieces-join l m w cs e n, e, composes-composed h)
+composes-composed (stay {c} p h) = rw (clusters-stay c p h, composes-composed h)
+composes-composed (join {l} {m} {w} {cs} e n h) = rw (clusters-join l m w cs e n, e, composes-composed h)
 
 -- what a text composes to is plain
 pub composes-plain : {cs os : List ℕ} → Composes cs os → allPlain os ≡ true

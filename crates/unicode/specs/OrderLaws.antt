@@ -9,8 +9,8 @@ use borrow.Author.Tests.{lt-ltb, ltb-true}
 use Rattle.lists.specs.TestsLaws.{and-left, and-right, either, clash}
 use Rattle.unicode.specs.Repertoire.{plain}
 use Rattle.unicode.specs.Nfc.{classOf, reorderable, moved, ordered}
-use Rattle.unicode.specs.Marks.{plain-class}
-use Rattle.unicode.specs.Composes.{Composes, done, stay, join, letter-plain}
+use Rattle.unicode.specs.MarksLaws.{plain-class}
+use Rattle.unicode.specs.Composition.{Composes, done, stay, join, letter-plain}
 
 -- a character of a class above 0, which a starter has not
 unfoldable pub classed : ℕ → Bool

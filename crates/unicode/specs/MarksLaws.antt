@@ -11,8 +11,8 @@ use Rattle.unicode.specs.Utf8.{within}
 use Rattle.unicode.specs.Repertoire.{member, marks, isMark, plain}
 use Rattle.unicode.specs.Decompositions.{Class, class, decompositions, classes}
 use Rattle.unicode.specs.Nfc.{classIn, classOf}
-use Rattle.unicode.specs.Bounds.{at-least, at-most, inside}
-use Rattle.unicode.specs.Rows.{each, noWhole}
+use Rattle.unicode.specs.BoundsLaws.{at-least, at-most, inside}
+use Rattle.unicode.specs.PairsLaws.{each, noWhole}
 
 -- a test passes at each character of a list
 unfoldable every : (ℕ → Bool) → List ℕ → Bool

@@ -14,7 +14,7 @@ use Rattle.unicode.specs.Pairs.{Pair, pair, found, pairs}
 use Rattle.unicode.specs.Decompositions.{decompositions}
 use Rattle.unicode.specs.Nfc.{parts, composite}
 use Rattle.unicode.specs.Joining.{joined}
-use Rattle.unicode.specs.Bounds.{at-least}
+use Rattle.unicode.specs.BoundsLaws.{at-least}
 
 -- a test passes at each row: letter, mark, whole
 unfoldable pub each : (ℕ → ℕ → ℕ → Bool) → List Pair → Bool

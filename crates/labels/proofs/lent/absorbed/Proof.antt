@@ -1,4 +1,4 @@
--- `labels::lent::grown` meets its contract: a walk of its MIR, by hand. A local digest is lent to `put` for a lifetime that is made
+-- `labels::lent::absorbed` meets its contract: a walk of its MIR, by hand. A local digest is lent to `put` for a lifetime that is made
 -- for the call, and taken back at its last value. All that the walk knows of `put` is that it meets its contract.
 use mathlib.Core.Path.{refl}
 use Prim.Native.Nat.{ℕ, _+_, _<_, _^_}
@@ -49,10 +49,10 @@ use Rattle.labels.proofs.lent.put as put
 use Rattle.labels.proofs.lent.put.Symbol as put-def
 use Rattle.labels.proofs.lent.put.Symbol.{name as #put}
 use Rattle.labels.proofs.lent.put.Met as put-thm
-use Rattle.labels.proofs.lent.grown.Key.{name as #grown}
-use Rattle.labels.proofs.lent.grown as grown
-use Rattle.labels.proofs.lent.grown.Statement as stated
-use Rattle.labels.proofs.lent.grown.Code as code
+use Rattle.labels.proofs.lent.absorbed.Key.{name as #absorbed}
+use Rattle.labels.proofs.lent.absorbed as absorbed
+use Rattle.labels.proofs.lent.absorbed.Statement as stated
+use Rattle.labels.proofs.lent.absorbed.Code as code
 
 abbrev R : RattleType
 R = T.the-row
@@ -61,7 +61,7 @@ R = T.the-row
 abbrev vals : Digest → List Val
 vals = LL.vals T.the-type T′.the-laws
 
-abbrev stayed : Stays (grown.ended .signature .params) (grown.ended .kept)
+abbrev stayed : Stays (absorbed.ended .signature .params) (absorbed.ended .kept)
 stayed = (stay-none (λ _. R) yes, (stay-none-slice (0 ∷ []) tt (plain (λ _. u8)) yes, tt))
 
 module _ {M : Type 1} (𝓤 : URA M) (H : Heap 𝓤) (A : Atoms 𝓤) (at-mem : Memory → SProp 𝓤) (run : Routine → Fun 𝓤) where
@@ -80,7 +80,7 @@ module _ {M : Type 1} (𝓤 : URA M) (H : Heap 𝓤) (A : Atoms 𝓤) (W : Given
   lawful = LL.lawful T.the-type T′.the-laws 𝓤 H A W
 
   abbrev Post : Val → SProp 𝓤
-  Post = walkOf 𝓤 H A grown.ended stayed (grown.clauses 𝓤 H A at-mem run) .post (((κ, tt), (q, tt), tt, (d, (s, tt)), at), tt)
+  Post = walkOf 𝓤 H A absorbed.ended stayed (absorbed.clauses 𝓤 H A at-mem run) .post (((κ, tt), (q, tt), tt, (d, (s, tt)), at), tt)
 
   -- what part owns, and its lifetime's token
   abbrev Own : Fml
@@ -109,11 +109,11 @@ module _ {M : Type 1} (𝓤 : URA M) (H : Heap 𝓤) (A : Atoms 𝓤) (W : Given
   exits : (r : Digest) (w : Val) → Grows d (now s) r → ent 𝓤 (⋆ 𝓤 H A (‵ (R .own r (w ∷ [])) ∷ Token ∷ ‵ Own ∷ [])) (Post w)
   exits r w e =
       qed W (‵ (R .own r (w ∷ [])) ∷ Token ∷ ‵ Own ∷ []) ∵
-      suffices ! _ (ends-at 𝓤 H A grown.ended stayed (grown.clauses 𝓤 H A at-mem run) W (((κ, tt), (q, tt), tt, (d, (s, tt)), at), tt) w r (tt, (tt, tt)) (tt, (tt, tt))) $ says ! e $
+      suffices ! _ (ends-at 𝓤 H A absorbed.ended stayed (absorbed.clauses 𝓤 H A at-mem run) W (((κ, tt), (q, tt), tt, (d, (s, tt)), at), tt) w r (tt, (tt, tt)) (tt, (tt, tt))) $ says ! e $
       move ! (1 ∷ []) $ frame ! $ nothing ! $ move ! (2 ∷ 0 ∷ []) $ fjoin ! $ owned ! R (Is R) (LL.makes T.the-type T′.the-plain 𝓤 H A) d (vals d) was $ fjoin ! $ frame ! $ done !
 
   module _ (C : Calls 𝓤 H) (Λ : Loops 𝓤 H) (fm : FmC 𝓤 H (W .laws) C) (known : Triple 𝓤 (C #put) (Put 𝓤 H A at-mem run)) where
-    walk : Is (ShrSlice (named 0) κ u8) s (v ∷ []) → ent 𝓤 (onEntry 𝓤 H A grown.signature (κ, tt) (q, tt) (d, (s, tt)) at) (WpFn 𝓤 H C Λ code.function (LL.val T.the-type T′.the-laws d ∷ v ∷ []) Post)
+    walk : Is (ShrSlice (named 0) κ u8) s (v ∷ []) → ent 𝓤 (onEntry 𝓤 H A absorbed.signature (κ, tt) (q, tt) (d, (s, tt)) at) (WpFn 𝓤 H C Λ code.function (LL.val T.the-type T′.the-laws d ∷ v ∷ []) Post)
     walk is-part =
         qed W (Token ∷ ‵ (owns (R ∷ ShrSlice (named 0) κ u8 ∷ []) (d, (s, tt)) at) ∷ []) ∵ enter ! C Λ code.function (LL.val T.the-type T′.the-laws d ∷ v ∷ []) _ $
         alloc1 ! (λ l₀. alloc1 ! (λ l₁. alloc1 ! (λ l₂. alloc1 ! (λ l₃. alloc1 ! (λ l₄. alloc1 ! (λ l₅. alloc0 ! $ params1 ! $
@@ -144,23 +144,23 @@ module _ {M : Type 1} (𝓤 : URA M) (H : Heap 𝓤) (A : Atoms 𝓤) (W : Given
         keep ! (0 ∷ 1 ∷ 3 ∷ []) $ by ! (exits (ws .0) w e))))))))))))))))
 
 module _ {M : Type 1} (𝓤 : URA M) (H : Heap 𝓤) (A : Atoms 𝓤) (W : Given 𝓤 H A) (at-mem : Memory → SProp 𝓤) (run : Routine → Fun 𝓤) where
-  grown-walks : (C : Calls 𝓤 H) (Λ : Loops 𝓤 H) → FmC 𝓤 H (W .laws) C → Triple 𝓤 (C #put) (Put 𝓤 H A at-mem run)
-      → Walks 𝓤 H A grown.ended stayed (WpFn 𝓤 H C Λ code.function) (grown.clauses 𝓤 H A at-mem run)
-  grown-walks C Λ fm known = walked 𝓤 H A grown.ended stayed (grown.clauses 𝓤 H A at-mem run) (WpFn 𝓤 H C Λ code.function)
+  absorbed-walks : (C : Calls 𝓤 H) (Λ : Loops 𝓤 H) → FmC 𝓤 H (W .laws) C → Triple 𝓤 (C #put) (Put 𝓤 H A at-mem run)
+      → Walks 𝓤 H A absorbed.ended stayed (WpFn 𝓤 H C Λ code.function) (absorbed.clauses 𝓤 H A at-mem run)
+  absorbed-walks C Λ fm known = walked 𝓤 H A absorbed.ended stayed (absorbed.clauses 𝓤 H A at-mem run) (WpFn 𝓤 H C Λ code.function)
       (λ κs. (vals, (slice-vals, tt))) (λ κs. (LL.tells T.the-type T′.the-laws, (shr-slice-tells (named 0) (κs .0) u8, tt)))
       (λ κs qs bounds a g are. needs 𝓤 _ _ (λ ok. walk 𝓤 H A W at-mem run (κs .0) (qs .0) (a .0) (a .1 .0) ok (are .0) C Λ fm known (are .1 .0)))
 
-grown-meets : {M : Type 1} (𝓤 : URA M) (H : Heap 𝓤) (A : Atoms 𝓤) (W : Given 𝓤 H A) (at-mem : Memory → SProp 𝓤) (run : Routine → Fun 𝓤) (𝓣 : Tables 𝓤 H)
+absorbed-meets : {M : Type 1} (𝓤 : URA M) (H : Heap 𝓤) (A : Atoms 𝓤) (W : Given 𝓤 H A) (at-mem : Memory → SProp 𝓤) (run : Routine → Fun 𝓤) (𝓣 : Tables 𝓤 H)
     → Triple 𝓤 (𝓣 .C #put) (Put 𝓤 H A at-mem run)
-    → Meets 𝓤 H A grown.signature (WpFn 𝓤 H (𝓣 .C) (𝓣 .Λ) code.function) (grown.spec 𝓤 H A at-mem run)
-grown-meets 𝓤 H A W at-mem run 𝓣 known =
-    walk-meets 𝓤 H A grown.ended stayed W (goes-none 𝓤 H A W 1 (λ _. R) yes (λ κs x f. refl), (goes-none-slice 𝓤 H A W 1 (0 ∷ []) tt (plain (λ _. u8)) yes, tt)) (grown.clauses 𝓤 H A at-mem run)
-    (WpFn 𝓤 H (𝓣 .C) (𝓣 .Λ) code.function) (WpFn-mono 𝓤 H (W .laws) 𝓣 code.function) (grown-walks 𝓤 H A W at-mem run (𝓣 .C) (𝓣 .Λ) (fmOf 𝓤 H (W .laws) 𝓣) known)
+    → Meets 𝓤 H A absorbed.signature (WpFn 𝓤 H (𝓣 .C) (𝓣 .Λ) code.function) (absorbed.spec 𝓤 H A at-mem run)
+absorbed-meets 𝓤 H A W at-mem run 𝓣 known =
+    walk-meets 𝓤 H A absorbed.ended stayed W (goes-none 𝓤 H A W 1 (λ _. R) yes (λ κs x f. refl), (goes-none-slice 𝓤 H A W 1 (0 ∷ []) tt (plain (λ _. u8)) yes, tt)) (absorbed.clauses 𝓤 H A at-mem run)
+    (WpFn 𝓤 H (𝓣 .C) (𝓣 .Λ) code.function) (WpFn-mono 𝓤 H (W .laws) 𝓣 code.function) (absorbed-walks 𝓤 H A W at-mem run (𝓣 .C) (𝓣 .Λ) (fmOf 𝓤 H (W .laws) 𝓣) known)
 
-pub grown-spec : {M : Type 1} → stated.statement M
+pub absorbed-spec : {M : Type 1} → stated.statement M
 unfolding code.routine tablesOf
-grown-spec 𝓤 H 𝓜 𝓖 𝓡 =
-    entered 𝓤 H (tripleOf 𝓤 H (𝓖 .A) grown.signature (grown.spec 𝓤 H (𝓖 .A) (𝓜 .mem) (𝓡 .run)))
-    (tables 𝓤 H 𝓜 𝓡 code.env .C) (tables 𝓤 H 𝓜 𝓡 code.env .Λ) #grown code.function (code.unfolded 𝓤 H 𝓜 𝓡)
-    (grown-meets 𝓤 H (𝓖 .A) (givenOf 𝓤 H 𝓜 𝓖) (𝓜 .mem) (𝓡 .run) (tablesOf 𝓤 H 𝓜 (tables 𝓤 H 𝓜 𝓡 code.env))
+absorbed-spec 𝓤 H 𝓜 𝓖 𝓡 =
+    entered 𝓤 H (tripleOf 𝓤 H (𝓖 .A) absorbed.signature (absorbed.spec 𝓤 H (𝓖 .A) (𝓜 .mem) (𝓡 .run)))
+    (tables 𝓤 H 𝓜 𝓡 code.env .C) (tables 𝓤 H 𝓜 𝓡 code.env .Λ) #absorbed code.function (code.unfolded 𝓤 H 𝓜 𝓡)
+    (absorbed-meets 𝓤 H (𝓖 .A) (givenOf 𝓤 H 𝓜 𝓖) (𝓜 .mem) (𝓡 .run) (tablesOf 𝓤 H 𝓜 (tables 𝓤 H 𝓜 𝓡 code.env))
     (cited 𝓤 H (Put 𝓤 H (𝓖 .A) (𝓜 .mem) (𝓡 .run)) 𝓜 𝓡 code.env #put put-def.routine code.calls-labels·lent·put (put-thm.met 𝓤 H 𝓜 𝓖 𝓡)))

@@ -11,8 +11,8 @@ use borrow.Author.Tests.{ne-eqb, not-true}
 use Rattle.unicode.specs.Cons.{head, tail}
 use Rattle.lists.specs.TestsLaws.{and-left, and-right, and-both, either, clash}
 use Rattle.unicode.specs.Utf8.{ill, scalar, scalars, wellFormed, width, encode, encodes, front, chars, decode}
-use Rattle.unicode.specs.Sequences.{front-starts}
-use Rattle.unicode.specs.Encodings.{scalar-below, front-encode}
+use Rattle.unicode.specs.SequencesLaws.{front-starts}
+use Rattle.unicode.specs.EncodingsLaws.{scalar-below, front-encode}
 
 pub width-some : (c : ℕ) → 1 ≤ width c
 unfolding width

@@ -7,8 +7,8 @@ use Rattle.trees.specs.Rows.{node, tip}
 use Rattle.tables.specs.Tables.{entryOf}
 use Rattle.faults.specs.Steps.{entry-tip, entry-node}
 use Rattle.stack.proofs.Hashing.{ready-as, grows-as, leaf-room, leaf-grows}
-use Rattle.stack.proofs.grown.Statement.{statement}
-use Rattle.stack.proofs.grown.Tie as tie
+use Rattle.stack.proofs.grow.Statement.{statement}
+use Rattle.stack.proofs.grow.Tie as tie
 
 push-requires : tie.Need-push-requires
 push-requires c κs =
@@ -41,8 +41,8 @@ returns-2 c =
     λ st l.
     grows-as is (c .before .before .before .before .before .before .before .before .before .before .hash .ensures st l)
 
-pub grown-spec : {M : Type 1} → statement M
-grown-spec =
+pub grow-spec : {M : Type 1} → statement M
+grow-spec =
     tie.close
     (tie.spec push-requires hash-requires (λ c. search needs) (λ c. search needs) (λ c. search needs) (λ c. search needs) returns
     (λ c. search needs) (λ c. search needs) (λ c. search needs) (λ c. search needs) (λ c. search needs) returns-2)

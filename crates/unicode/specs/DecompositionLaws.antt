@@ -14,9 +14,9 @@ use Rattle.unicode.specs.Repertoire.{isMark, plain}
 use Rattle.unicode.specs.Decompositions.{decompositions}
 use Rattle.unicode.specs.Nfc.{parts, decomposed, composite}
 use Rattle.unicode.specs.Joining.{joined}
-use Rattle.unicode.specs.Rows.{latin, Made, joint, decomposes, stays}
-use Rattle.unicode.specs.Marks.{mark-no-whole}
-use Rattle.unicode.specs.Composes.{Composes, done, stay, join, letter-plain, whole-plain, joins-mark, starts}
+use Rattle.unicode.specs.PairsLaws.{latin, Made, joint, decomposes, stays}
+use Rattle.unicode.specs.MarksLaws.{mark-no-whole}
+use Rattle.unicode.specs.Composition.{Composes, done, stay, join, letter-plain, whole-plain, joins-mark, starts}
 
 -- a plain character that is taken apart is a letter and a mark that join to it
 plain-joins : (l m c : ℕ) → plain c ≡ true → Made l m c → joined l m ≡ c

@@ -16,25 +16,25 @@ use Rattle.unicode.specs.Repertoire.{isMark, plain, allPlain, allIn}
 use Rattle.unicode.specs.Nfc.{nfc}
 use Rattle.unicode.specs.Joining.{joined, accepts, composed}
 use Rattle.outcomes.specs.Outcome.{Output, Leaves}
-use Rattle.titles.specs.Compose.{text, acceptedWith, composeOf, composedText, maxBytes}
-use Rattle.unicode.specs.Bounds.{at-least, at-most, width-2}
-use Rattle.unicode.specs.Decoding.{decode-encodes, encodes-decode, length-encode}
-use Rattle.unicode.specs.Rows.{joint}
-use Rattle.unicode.specs.Marks.{mark-within, plain-small}
-use Rattle.titles.specs.Outcomes.{long, refused, short, taken, judged-accepts, refused-length}
-use Rattle.unicode.specs.Composes.{Composes, done, stay, join, letter-plain, joins-mark, accepts-composes}
+use Rattle.titles.specs.Compose.{text, acceptedWith, composeOf, composedText, maxTitle}
+use Rattle.unicode.specs.BoundsLaws.{at-least, at-most, width-2}
+use Rattle.unicode.specs.DecodingLaws.{decode-encodes, encodes-decode, length-encode}
+use Rattle.unicode.specs.PairsLaws.{joint}
+use Rattle.unicode.specs.MarksLaws.{mark-within, plain-small}
+use Rattle.titles.specs.ComposeLaws.{long, refused, short, taken, judged-accepts, refused-length}
+use Rattle.unicode.specs.Composition.{Composes, done, stay, join, letter-plain, joins-mark, accepts-composes}
 use Rattle.unicode.specs.NfcTheorem.{accepts-nfc, nfc-composed, equal-composed, composed-plain, plain-accepts, plain-composed}
 
 -- an outcome with number 0 is an acceptance of all characters, with room
-pub record Taken (title out : List ℕ) : Type 0 where
-  pub under : length title ≤ maxBytes
+pub record AcceptedTitle (title out : List ℕ) : Type 0 where
+  pub under : length title ≤ maxTitle
   pub all : accepts (decode title) ≡ true
   pub room : length (text title) ≤ length out
   pub whole : composeOf title out ≡ acceptedWith (text title) out
 
-pub was-taken : (title out : List ℕ) → composeOf title out .answer .number ≡ accepted → Taken title out
+pub was-taken : (title out : List ℕ) → composeOf title out .answer .number ≡ accepted → AcceptedTitle title out
 was-taken title out z =
-    either (ltb maxBytes (length title))
+    either (ltb maxTitle (length title))
     (λ p. absurd (omega (arith, ap (λ (o : Output Composed). o .answer .number) (long title out p))))
     (λ p.
     let all =
@@ -47,7 +47,7 @@ was-taken title out z =
     (λ q. ltb-false (length out) (length (text title)) q)
     in
     record {
-      under = ltb-false maxBytes (length title) p;
+      under = ltb-false maxTitle (length title) p;
       all = all;
       room = room;
       whole = taken title (text title) out p all refl room;
@@ -59,7 +59,7 @@ pub refused-nothing :
     → (composeOf title out .answer .number ≡ accepted → ⊥)
     → (composeOf title out .left ≡ out) × (composeOf title out .answer .length ≡ 0)
 refused-nothing title out some =
-    either (ltb maxBytes (length title))
+    either (ltb maxTitle (length title))
     (λ p. rw (long title out p) (refl, refl))
     (λ p.
     either (accepts (decode title))
@@ -122,7 +122,7 @@ text-shorter title a =
 -- text; and then the output is the encoding of its NFC
 pub title-nfc :
     (title out : List ℕ)
-    → length title ≤ maxBytes
+    → length title ≤ maxTitle
     → allIn (decode title) ≡ true
     → allPlain (nfc (decode title)) ≡ true
     → length (encodes (nfc (decode title))) ≤ length out
@@ -130,7 +130,7 @@ pub title-nfc :
 unfolding text
 title-nfc title out under known e room =
     let a = accepts-nfc (decode title) ∙ and-both _ _ known e in
-    taken title _ out (le-ltb maxBytes (length title) under) a (ap encodes (sym (nfc-composed (decode title) a))) room
+    taken title _ out (le-ltb maxTitle (length title) under) a (ap encodes (sym (nfc-composed (decode title) a))) room
 
 pub accepted-nfc :
     (title out : List ℕ)
@@ -146,8 +146,8 @@ accepted-nfc title out z =
 -- repertoire, as those of one that is accepted are
 pub equal-nfc :
     (x y out : List ℕ)
-    → length x ≤ maxBytes
-    → length y ≤ maxBytes
+    → length x ≤ maxTitle
+    → length y ≤ maxTitle
     → allIn (decode y) ≡ true
     → nfc (decode x) ≡ nfc (decode y)
     → composeOf x out .answer .number ≡ accepted
@@ -156,7 +156,7 @@ unfolding text
 equal-nfc x y out ux uy known e z =
     let t = was-taken x out z in
     let same = equal-composed (decode x) (decode y) known e (t .all) in
-    taken y (text x) out (le-ltb maxBytes (length y) uy) (same .0) (ap encodes (sym (same .1))) (t .room) ∙ sym (t .whole)
+    taken y (text x) out (le-ltb maxTitle (length y) uy) (same .0) (ap encodes (sym (same .1))) (t .room) ∙ sym (t .whole)
 
 -- the composed bytes decode to the composed characters
 decode-text : (title : List ℕ) → accepts (decode title) ≡ true → decode (text title) ≡ composed (decode title)
@@ -167,7 +167,7 @@ decode-text title a = decode-encodes (composed (decode title)) (plain-scalars _ 
 pub composed-itself :
     (value out : List ℕ)
     → composedText value ≡ true
-    → length value ≤ maxBytes
+    → length value ≤ maxTitle
     → length value ≤ length out
     → composeOf value out ≡ acceptedWith value out
 unfolding composedText text
@@ -175,7 +175,7 @@ composed-itself value out e under room =
     let same : encodes (composed (decode value)) ≡ value =
     rw (plain-composed (decode value) e) (encodes-decode value (plain-scalars (decode value) e))
     in
-    taken value value out (le-ltb maxBytes (length value) under) (plain-accepts (decode value) e) same room
+    taken value value out (le-ltb maxTitle (length value) under) (plain-accepts (decode value) e) same room
 
 -- an accepted output is composed text
 pub text-composed : (title : List ℕ) → accepts (decode title) ≡ true → composedText (text title) ≡ true
@@ -196,7 +196,7 @@ output-itself title out again z room =
 pub itself-composed :
     (value out : List ℕ)
     → composeOf value out ≡ acceptedWith value out
-    → (composedText value ≡ true) × (length value ≤ maxBytes)
+    → (composedText value ≡ true) × (length value ≤ maxTitle)
 itself-composed value out e =
     let t = was-taken value out (ap (λ (o : Output Composed). o .answer .number) e) in
     let both = sym (t .whole) ∙ e in
@@ -212,7 +212,7 @@ itself-composed value out e =
     (rw same at (text-composed value (t .all)), t .under)
 
 -- no output is over the limit
-pub length-most : (title out left : List ℕ) (r : Composed) → Leaves (composeOf title out) r left → r .length ≤ maxBytes
+pub length-most : (title out left : List ℕ) (r : Composed) → Leaves (composeOf title out) r left → r .length ≤ maxTitle
 length-most title out left r h =
     rw (h .answered)
     (either (eqb (composeOf title out .answer .number) accepted)

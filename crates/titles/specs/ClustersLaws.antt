@@ -1,4 +1,4 @@
--- A title's pieces, one at a time, from the bytes at a place.
+-- A title's clusters, one at a time, from the bytes at a place.
 use mathlib.Core.Path.{_≡_, refl, _∙_, ap}
 use mathlib.Core.Bool.{true, false}
 use mathlib.Core.List.{List, [], _∷_}
@@ -11,16 +11,16 @@ use borrow.Author.Tests.{ltb-true, ltb-false, eq-eqb, ne-eqb, eqb-true}
 use Rattle.lists.specs.TestsLaws.{either}
 use Rattle.unicode.specs.Utf8.{ill, width, character, front, decode}
 use Rattle.unicode.specs.Repertoire.{plain, allPlain}
-use Rattle.unicode.specs.Joining.{joined, Piece, bad, one, two, pieces}
-use Rattle.unicode.specs.Bounds.{at-least, at-most, width-2, encode-2}
-use Rattle.unicode.specs.Decoding.{decode-next, decode-end, front-fits}
-use Rattle.unicode.specs.Sequences.{front-starts}
-use Rattle.unicode.specs.Rows.{joint}
-use Rattle.unicode.specs.Marks.{mark-within, plain-small}
+use Rattle.unicode.specs.Joining.{joined, Cluster, bad, one, two, clusters}
+use Rattle.unicode.specs.BoundsLaws.{at-least, at-most, width-2, encode-2}
+use Rattle.unicode.specs.DecodingLaws.{decode-next, decode-end, front-fits}
+use Rattle.unicode.specs.SequencesLaws.{front-starts}
+use Rattle.unicode.specs.PairsLaws.{joint}
+use Rattle.unicode.specs.MarksLaws.{mark-within, plain-small}
 
--- the pieces of a title from byte `at` on
-abbrev pub from : List ℕ → ℕ → List Piece
-from s at = pieces (decode (drop at s))
+-- the clusters of a title from byte `at` on
+abbrev pub from : List ℕ → ℕ → List Cluster
+from s at = clusters (decode (drop at s))
 
 pub plain-not-ill : (c : ℕ) → plain c ≡ true → eqb c ill ≡ false
 plain-not-ill c e = ne-eqb c ill (λ q. omega (arith, plain-small c e))
@@ -65,37 +65,37 @@ no-mark l (b ∷ t) off =
     (either (eqb (joined l (front (b ∷ t))) 0) (λ p. p)
     (λ p. absurd (off (lead b t (mark-bounds l (front (b ∷ t)) p .0) (mark-bounds l (front (b ∷ t)) p .1)))))
 
-pub pieces-bad : (c : ℕ) (cs : List ℕ) → plain c ≡ false → pieces (c ∷ cs) ≡ bad c ∷ []
-unfolding pieces
-pieces-bad c [] e = rw e
-pieces-bad c (m ∷ cs) e = rw e
+pub clusters-bad : (c : ℕ) (cs : List ℕ) → plain c ≡ false → clusters (c ∷ cs) ≡ bad c ∷ []
+unfolding clusters
+clusters-bad c [] e = rw e
+clusters-bad c (m ∷ cs) e = rw e
 
-pieces-one : (c : ℕ) (s : List ℕ) → plain c ≡ true → eqb (joined c (front s)) 0 ≡ true → pieces (c ∷ decode s) ≡ one c ∷ pieces (decode s)
-unfolding pieces
-pieces-one c s e none =
+clusters-one : (c : ℕ) (s : List ℕ) → plain c ≡ true → eqb (joined c (front s)) 0 ≡ true → clusters (c ∷ decode s) ≡ one c ∷ clusters (decode s)
+unfolding clusters
+clusters-one c s e none =
     either (ltb 0 (length s))
     (λ p. rw (decode-next s (ltb-true 0 (length s) p), e, none))
     (λ p. rw (decode-end s (ltb-false 0 (length s) p), e))
 
-pieces-two :
+clusters-two :
     (c : ℕ) (s : List ℕ)
     → plain c ≡ true
     → eqb (joined c (front s)) 0 ≡ false
-    → pieces (c ∷ decode s) ≡ two c (front s) ∷ pieces (decode (drop (width (front s)) s))
-unfolding pieces
-pieces-two c s e some =
+    → clusters (c ∷ decode s) ≡ two c (front s) ∷ clusters (decode (drop (width (front s)) s))
+unfolding clusters
+clusters-two c s e some =
     let m = front s in
     let b = mark-bounds c m some in
     let well : eqb m ill ≡ false = ne-eqb m ill (λ x. omega arith) in
     rw (decode-next s (joins-some c s some), well, e, some)
 
--- the piece that starts at byte `at`, whose character is c
+-- the cluster that starts at byte `at`, whose character is c
 module _ (s : List ℕ) (at c : ℕ) (more : at < length s) (is : c ≡ front (drop at s)) where
   left : 0 < length (drop at s)
   left = rw (length-drop at s) (omega arith)
 
   pub bad-at : plain c ≡ false → from s at ≡ bad c ∷ []
-  bad-at e = rw (decode-next (drop at s) left, ← is) (pieces-bad c _ e)
+  bad-at e = rw (decode-next (drop at s) left, ← is) (clusters-bad c _ e)
 
   pub not-plain-at : plain c ≡ false → allPlain (decode (drop at s)) ≡ false
   unfolding allPlain
@@ -113,7 +113,7 @@ module _ (s : List ℕ) (at c : ℕ) (more : at < length s) (is : c ≡ front (d
     next-fits = rw is (omega (arith, rw (length-drop at s) at (plain-fits (drop at s) left (rw is at e))))
 
     pub one-at : joined c (front (drop (at + width c) s)) ≡ 0 → from s at ≡ one c ∷ from s (at + width c)
-    one-at none = rw decoded-at (pieces-one c (drop (at + width c) s) e (eq-eqb _ 0 none))
+    one-at none = rw decoded-at (clusters-one c (drop (at + width c) s) e (eq-eqb _ 0 none))
 
     module _ (m : ℕ) (next : m ≡ front (drop (at + width c) s)) (some : eqb (joined c m) 0 ≡ false) where
       rest : List ℕ
@@ -134,7 +134,7 @@ module _ (s : List ℕ) (at c : ℕ) (more : at < length s) (is : c ≡ front (d
       unfolding rest
       two-at =
           rw decoded-at
-          (pieces-two c rest e (rw next at some)
+          (clusters-two c rest e (rw next at some)
           ∙ rw (← next, mark-width, drop-drop 2 (at + width c) s))
 
 pub all-plain-end : (s : List ℕ) (at : ℕ) → length s ≤ at → allPlain (decode (drop at s)) ≡ true

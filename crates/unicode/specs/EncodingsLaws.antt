@@ -9,8 +9,8 @@ use lib.ListN.{getD}
 use borrow.Author.Tests.{lt-ltb, le-ltb, ltb-true, ltb-false, leb-true, eqb-true}
 use Rattle.lists.specs.TestsLaws.{and-left, and-right, either}
 use Rattle.unicode.specs.Utf8.{ill, scalar, follow, encode, low, high, tail, twoBytes, threeBytes, fourBytes, front}
-use Rattle.unicode.specs.Bounds.{inside, encode-1, encode-2}
-use Rattle.unicode.specs.Fronts.{character-1, character-2, character-3, character-4}
+use Rattle.unicode.specs.BoundsLaws.{inside, encode-1, encode-2}
+use Rattle.unicode.specs.FrontsLaws.{character-1, character-2, character-3, character-4}
 
 -- the second byte passes its test
 module _ (a b : ℕ) (from : 0x80 ≤ b) (to : b ≤ 0xBF) where

@@ -9,8 +9,8 @@ use lib.ListN.{getD, drop}
 use borrow.Author.Tests.{lt-ltb, le-ltb, le-leb, ltb-true, ltb-false, eqb-true, eqb-false}
 use Rattle.lists.specs.TestsLaws.{and-left, and-right, either, clash}
 use Rattle.unicode.specs.Utf8.{ill, scalar, width, follow, encode, within, low, high, tail, twoBytes, threeBytes, fourBytes, front}
-use Rattle.unicode.specs.Fronts.{character-1, character-2, character-3, character-4}
-use Rattle.unicode.specs.Bounds.{at-least, at-most, encode-1, encode-2, width-1, width-2}
+use Rattle.unicode.specs.FrontsLaws.{character-1, character-2, character-3, character-4}
+use Rattle.unicode.specs.BoundsLaws.{at-least, at-most, encode-1, encode-2, width-1, width-2}
 
 -- the bounds of the second byte
 record Second (a b : ℕ) : Type 0 where

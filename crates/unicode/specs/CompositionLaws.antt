@@ -10,9 +10,9 @@ use Rattle.unicode.specs.Repertoire.{plain, allPlain}
 use Rattle.unicode.specs.Pairs.{pairs}
 use Rattle.unicode.specs.Nfc.{classOf, blocked, composite, composing, composedFrom}
 use Rattle.unicode.specs.Joining.{joined}
-use Rattle.unicode.specs.Rows.{latin, noLetter, joint, composed-told, joinless}
-use Rattle.unicode.specs.Marks.{plain-class}
-use Rattle.unicode.specs.Composes.{Composes, done, stay, join, letter-plain, starts}
+use Rattle.unicode.specs.PairsLaws.{latin, noLetter, joint, composed-told, joinless}
+use Rattle.unicode.specs.MarksLaws.{plain-class}
+use Rattle.unicode.specs.Composition.{Composes, done, stay, join, letter-plain, starts}
 
 -- a composite is a pair's, or one outside U+00C0 to U+00FF
 composite-cases :
