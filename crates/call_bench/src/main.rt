@@ -5,11 +5,11 @@ mod tally;
 mod task;
 
 use calls::answered;
-use lines::page;
-use lines::parts;
 use tally::Tally;
 use task::Next;
 use task::Task;
+use text_lines::page;
+use text_lines::parts;
 ghost use Prim.Native.Nat.{_<_};
 
 // What an output holds before a task.

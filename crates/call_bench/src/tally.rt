@@ -1,8 +1,8 @@
 // What the calls answered and wrote: how many were accepted and refused, and two sums over every number and byte. The
 // second sums the first as it grows, so that the order counts too.
-use lines::page;
 use slips::answer::Answer;
 use std::num;
+use text_lines::page;
 
 pub struct Tally {
     pub accepted: u64,

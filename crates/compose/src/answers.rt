@@ -1,8 +1,8 @@
 // What is put on the page for a title.
 use crate::words;
-use lines::page;
-use lines::parts;
 use outcomes::Refusal;
+use text_lines::page;
+use text_lines::parts;
 use titles::Composed;
 use titles::Title;
 ghost use Prim.Native.Nat.{_+_, _≤_};

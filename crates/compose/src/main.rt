@@ -6,11 +6,11 @@
 mod answers;
 mod words;
 
-use lines::input;
-use lines::input::Input;
-use lines::page;
-use lines::parts;
 use std::num;
+use text_lines::input;
+use text_lines::input::Input;
+use text_lines::page;
+use text_lines::parts;
 
 fn main() {
     let mut area = [0u8; input::ROOM];

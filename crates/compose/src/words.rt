@@ -1,7 +1,7 @@
 // A refusal in words, a line on standard error.
-use lines::page;
-use lines::parts;
 use outcomes::Refusal;
+use text_lines::page;
+use text_lines::parts;
 use titles::Composed;
 use titles::Title;
 ghost use Prim.Native.Nat.{_<_};

@@ -1,10 +1,10 @@
 // desk check: a line a file.
-use commands::files;
-use commands::messages;
-use commands::refusals;
-use lines::page;
+use desk_files::files;
+use desk_files::messages;
+use desk_files::refusals;
 use outcomes::Refusal;
 use std::num;
+use text_lines::page;
 
 // How many bytes stand on the page, and how many files were refused.
 struct Told {

@@ -1,8 +1,8 @@
 // desk find: the value of a type in the first of the slips that has one.
 use crate::table;
-use commands::arguments;
-use commands::files;
-use commands::messages;
+use desk_files::arguments;
+use desk_files::files;
+use desk_files::messages;
 
 pub fn find(count: usize) {
     let kind = arguments::number(2);

@@ -1,14 +1,14 @@
 // desk unpack, desk pack and desk tree: what is made of the file of argument 2. desk join begins with it too.
 use crate::making;
 use crate::table;
-use commands::command::Command;
-use commands::files;
-use commands::messages;
-use lines::parts;
+use desk_files::command::Command;
+use desk_files::files;
+use desk_files::messages;
 use outcomes::Refusal;
 use table_text::faults::Fault;
 use table_text::reading;
 use tables::limits::Slip;
+use text_lines::parts;
 
 pub fn of_file(command: usize) {
     let mut space = [0u8; files::ROOM];
@@ -30,7 +30,7 @@ fn formed(command: usize, bytes: &[u8]) {
 }
 
 fn tree(slip: &[u8]) {
-    let a = drawn::draw(slip);
+    let a = tree_text::draw(slip);
     if a.number != Refusal::ACCEPTED {
         messages::refused(2, a.number, a.place);
     }

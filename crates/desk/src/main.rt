@@ -6,10 +6,10 @@ mod forms;
 mod making;
 mod table;
 
-use commands::command;
-use commands::command::Command;
-use commands::messages;
-use requests::session;
+use desk_calls::session;
+use desk_files::command;
+use desk_files::command::Command;
+use desk_files::messages;
 
 fn main() {
     let count = os::arg_count();

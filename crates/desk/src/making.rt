@@ -1,12 +1,12 @@
 // desk prune and desk join: a slip on standard output, or nothing there and the refusal on standard error.
-use commands::arguments;
-use commands::files;
-use commands::messages;
-use lines::parts;
+use desk_files::arguments;
+use desk_files::files;
+use desk_files::messages;
 use outcomes::Refusal;
 use slips::answer::Answer;
 use slips::header;
 use tables::limits::Slip;
+use text_lines::parts;
 
 // Writes out a slip that was made of the file of argument i, or says how it was refused.
 pub fn put(i: usize, a: Answer, out: &[u8; Slip::MAX_BYTES]) {

@@ -1,11 +1,11 @@
 // What is told of a slip's table: all of it, or the value of a type.
-use commands::messages;
-use lines::page;
-use lines::parts;
+use desk_files::messages;
 use outcomes::Refusal;
 use slips::header;
 use table_text::writing;
 use tables::limits::Slip;
+use text_lines::page;
+use text_lines::parts;
 
 // No type is so large: in its place the whole table is told.
 pub const ALL: u32 = fields::OVER;

@@ -8,8 +8,8 @@
 // A function that decodes is told how far the area is filled, and answers how far it is filled then, or BAD. Of BAD, or
 // of a full area, comes BAD: so it need be looked at only once, at the end.
 use bytes::scan;
-use lines::input;
-use lines::parts;
+use text_lines::input;
+use text_lines::parts;
 ghost use Prim.Native.Nat.{_≤_, _<_};
 
 // The longest line, in bytes.

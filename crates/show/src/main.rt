@@ -1,10 +1,10 @@
 // Reads a slip from standard input and prints what it discloses, or its refusal.
 use libc::STDIN_FILENO;
-use lines::page;
-use lines::parts;
-use lines::reading;
-use lines::reading::Got;
 use tables::limits::Slip;
+use text_lines::page;
+use text_lines::parts;
+use text_lines::reading;
+use text_lines::reading::Got;
 
 // One byte more than a slip may have: a longer input is refused all the same.
 const ROOM: usize = Slip::MAX_BYTES + 1;
@@ -17,6 +17,6 @@ fn main() {
         return;
     };
     let mut text = [0u8; page::BYTES];
-    let at = shown::slip(&mut text, 0, parts::bytes(&slip, 0, n));
+    let at = show_text::slip(&mut text, 0, parts::bytes(&slip, 0, n));
     page::close(&text, at, b"show");
 }

@@ -1,6 +1,6 @@
 // Why a line is no row.
-use lines::page;
-use lines::words;
+use text_lines::page;
+use text_lines::words;
 
 // The faults, each with the number of the line that has its words.
 pub struct Fault {}

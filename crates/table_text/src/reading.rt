@@ -2,9 +2,9 @@
 use crate::faults;
 use crate::faults::Fault;
 use bytes::scan;
-use lines::parts;
-use lines::words;
 use tables::limits::Slip;
+use text_lines::parts;
+use text_lines::words;
 ghost use Prim.Native.Nat.{_<_};
 ghost use Rattle.trees.specs.Rules.{maxNodes};
 

@@ -1,7 +1,7 @@
 // A table's rows put on a page.
-use lines::page;
-use lines::parts;
 use tables::limits::Slip;
+use text_lines::page;
+use text_lines::parts;
 
 // Answers how many bytes stand on the page.
 pub fn write(

@@ -1,5 +1,5 @@
 -- `compose::run` is safe and ends: the turns are counted down.
-use Rattle.lines.specs.Input.{Stands}
+use Rattle.text_lines.specs.Input.{Stands}
 use borrow.Author.Needs.{needs}
 use Rattle.compose.proofs.run.Statement.{statement}
 use Rattle.compose.proofs.run.Tie as tie

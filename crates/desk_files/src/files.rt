@@ -1,0 +1,57 @@
+// A file that an argument names.
+use crate::messages;
+use libc::STDIN_FILENO;
+use table_text::reading::BYTES;
+use text_lines::parts;
+use text_lines::reading;
+use text_lines::reading::Got;
+
+// One byte more than a table's text may have, which is more than a slip has: a longer file is refused all the same.
+pub const ROOM: usize = BYTES + 1;
+
+// The answer where a file cannot be read; that is said then.
+pub const UNREAD: usize = usize::MAX;
+
+// Reads the file that argument i names from its start as far as there is room, and answers how many bytes that is;
+// `-` is standard input.
+pub fn read(i: usize, space: &mut [u8; ROOM]) -> usize {
+    let n = got(i, space);
+    if n == UNREAD {
+        messages::said(b"desk: cannot read $\n", [0, 0, 0], i);
+    }
+    n
+}
+
+fn got(i: usize, space: &mut [u8; ROOM]) -> usize {
+    let mut name = io::buffer();
+    let n = os::arg(i, &mut name);
+    let fd = opened(&name[..n]);
+    if fd < 0 {
+        return UNREAD;
+    }
+    let m = taken(fd, space);
+    if fd != STDIN_FILENO {
+        libc::close(fd);
+    }
+    m
+}
+
+fn opened(name: &[u8]) -> i32 {
+    if check::same(name, b"-") {
+        return STDIN_FILENO;
+    }
+    os::open_read(name)
+}
+
+fn taken(fd: i32, space: &mut [u8; ROOM]) -> usize {
+    let got = reading::all(fd, space);
+    match got {
+        Got::Bytes(n) => n,
+        Got::Failed => UNREAD,
+    }
+}
+
+// The first n bytes of what was read.
+pub fn front(space: &[u8; ROOM], n: usize) -> &[u8] {
+    parts::bytes(space, 0, n)
+}

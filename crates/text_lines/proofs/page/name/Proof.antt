@@ -1,0 +1,17 @@
+-- `text_lines::page::name` is safe and ends.
+use Prim.Native.Nat.{_-_}
+use lib.ListN.{length}
+use borrow.Author.Needs.{needs}
+use Rattle.text_lines.proofs.page.name.Statement.{statement}
+use Rattle.text_lines.proofs.page.name.Tie as tie
+
+abbrev Inv-loop : tie.InvT-loop
+Inv-loop page₀ at text n₀ i₀ page n i = Unit {0}
+
+abbrev μ-loop : tie.MeasureT-loop
+μ-loop page₀ at text n₀ i₀ page n i = length text - i
+
+pub name-spec : {M : Type 1} → statement M
+name-spec =
+    tie.close (tie.spec Inv-loop μ-loop (λ c. search needs) (λ c. search needs) (λ c κs. search needs) (λ c κs. search needs)
+    (λ c. search needs) (λ c. search needs) (λ c. search needs) (λ c. search needs))

@@ -1,0 +1,2 @@
+-- What the contracts of `text_lines` cite.
+pub mod Input

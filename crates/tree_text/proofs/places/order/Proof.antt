@@ -1,0 +1,18 @@
+-- `tree_text::places::order` is safe and ends.
+use Prim.Native.Nat.{_≤_, _-_}
+use borrow.Author.Needs.{needs}
+use Rattle.tree_text.proofs.places.order.Statement.{statement}
+use Rattle.tree_text.proofs.places.order.Tie as tie
+
+abbrev Inv-loop : tie.InvT-loop
+Inv-loop begins n rows₀ row₀ rows row = row ≤ n
+
+abbrev μ-loop : tie.MeasureT-loop
+μ-loop begins n rows₀ row₀ rows row = n - row
+
+pub order-spec : {M : Type 1} → statement M
+order-spec =
+    tie.close (tie.spec Inv-loop μ-loop (λ c. search needs) (λ c. search needs) (λ c. search needs)
+    (λ c κs. search needs) (λ c κs. search needs) (λ c. search needs) (λ c. search needs)
+    (λ c. search needs) (λ c. search needs) (λ c. search needs) (λ c. search needs)
+    (λ c. search needs) (λ c. search needs) (λ c. search needs))
