@@ -1,4 +1,4 @@
--- Document 01, 'Titles', refusals 11 and 17 to 20, 'Order': what the composer answers and leaves in the buffer, for every title.
+-- Document 01, "Titles", refusals 11 and 17 to 20, "Order": what the composer answers and leaves in the buffer, for every title.
 use Prim.Native.Nat.{ℕ, _+_}
 use mathlib.Core.Path.{_≡_}
 use mathlib.Core.Bool.{Bool, cond, not}
@@ -13,7 +13,7 @@ use Rattle.unicode.specs.Repertoire.{isMark, allPlain}
 use Rattle.unicode.specs.Joining.{joined, Cluster, bad, one, two, clusters, accepts, composed}
 use Rattle.titles.specs.declared.composed.Composed.{Composed}
 
--- 'The 511-byte limit is read on the title as given.'
+-- "The 511-byte limit is read on the title as given."
 abbrev pub maxTitle : ℕ
 maxTitle = 511
 
@@ -21,18 +21,18 @@ maxTitle = 511
 unfoldable pub text : List ℕ → List ℕ
 text title = encodes (composed (decode title))
 
--- '18 before 19 before 20': what is wrong with a character that is bad
+-- "18 before 19 before 20": what is wrong with a character that is bad
 unfoldable pub fault : ℕ → ℕ
 fault c = cond (eqb c ill) notUtf8 (cond (isMark c) looseMark outsideRepertoire)
 
--- 'A refusal returns its number and place, with length .. zero'
+-- "A refusal returns its number and place, with length .. zero"
 abbrev pub refusal : ℕ → ℕ → Composed
 refusal n p = record { number = n; place = p; length = 0 }
 
 abbrev pub acceptance : ℕ → Composed
 acceptance n = record { number = accepted; place = 0; length = n }
 
--- the answer at clusters that start at byte p, with n bytes composed before: 'the first bad character', placed at its first byte
+-- the answer at clusters that start at byte p, with n bytes composed before: "the first bad character", placed at its first byte
 unfoldable pub answerFrom : ℕ → ℕ → List Cluster → Composed
 answerFrom p n [] = acceptance n
 answerFrom p n (bad c ∷ ps) = refusal (fault c) p
@@ -43,7 +43,7 @@ answerFrom p n (two l m ∷ ps) = answerFrom (p + (width l + width m)) (n + widt
 abbrev pub acceptedWith : List ℕ → List ℕ → Output Composed
 acceptedWith t out = record { answer = acceptance (length t); left = over t out }
 
--- 'Composer: 17, then the first bad character, 18 before 19 before 20 there, then 11.'
+-- "Composer: 17, then the first bad character, 18 before 19 before 20 there, then 11."
 abbrev pub composeTests : List ℕ → List ℕ → List (Bool × Output Composed)
 composeTests title out =
     (ltb maxTitle (length title), still (refusal titleLong 0) out)
@@ -54,6 +54,6 @@ composeTests title out =
 unfoldable pub composeOf : List ℕ → List ℕ → Output Composed
 composeOf title out = chain (composeTests title out) (acceptedWith (text title) out)
 
--- 'A text value in a slip must already be composed: well-formed, in the repertoire, no mark.'
+-- "A text value in a slip must already be composed: well-formed, in the repertoire, no mark."
 unfoldable pub composedText : List ℕ → Bool
 composedText value = allPlain (decode value)

@@ -53,7 +53,7 @@ was-taken title out z =
       whole = taken title (text title) out p all refl room;
     })
 
--- 'A refusal .. writes nothing', and its length is 0
+-- "A refusal .. writes nothing", and its length is 0
 pub refused-nothing :
     (title out : List ℕ)
     → (composeOf title out .answer .number ≡ accepted → ⊥)

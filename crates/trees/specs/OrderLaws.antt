@@ -1,4 +1,4 @@
--- 'Is a pruning of' is a partial order that keeps labels and places, and is exactly 'discloses no more at each place'.
+-- "Is a pruning of" is a partial order that keeps labels and places, and is exactly "discloses no more at each place".
 use mathlib.Core.Path.{_≡_, refl, sym, ap, _∙_, subst, subst₂}
 use mathlib.Core.Logic.{_↔_}
 use mathlib.Core.List.{List, [], _∷_}
@@ -132,6 +132,6 @@ module _ (H : List ℕ → List ℕ) where
   abbrev pub NoMore : Node → Node → Type 0
   NoMore a b = (p : Place) (x : Fact) → tells H a p ≡ some x → tells H b p ≡ some x
 
-  -- for trees with one root label, 'is a pruning of' is exactly that
+  -- for trees with one root label, "is a pruning of" is exactly that
   pub le-exactly : (a b : Node) → typeOf a ≡ typeOf b → label H a ≡ label H b → Le H a b ↔ NoMore a b
   le-exactly a b t l = (λ h p x. le-tells a b p x h, tells-le a b t l)

@@ -1,4 +1,4 @@
--- Document 01, 'Titles': what the characters of a title are read as, and what they compose to.
+-- Document 01, "Titles": what the characters of a title are read as, and what they compose to.
 use Prim.Native.Nat.{ℕ}
 use mathlib.Core.Bool.{Bool, true, false, cond}
 use mathlib.Core.List.{List, [], _∷_}
@@ -6,7 +6,7 @@ use lib.Dec.{eqb}
 use Rattle.unicode.specs.Repertoire.{plain}
 use Rattle.unicode.specs.Pairs.{found, pairs}
 
--- 'A mark directly after a letter joins it': the joined letter, or 0
+-- "A mark directly after a letter joins it": the joined letter, or 0
 unfoldable pub joined : ℕ → ℕ → ℕ
 joined l m = found pairs l m
 
@@ -16,7 +16,7 @@ pub data Cluster : Type 0 where
   one : (c : ℕ) → Cluster
   two : (l m : ℕ) → Cluster
 
--- 'A joined letter takes no further mark': a mark that joins nothing starts the next cluster, and is bad there
+-- "A joined letter takes no further mark": a mark that joins nothing starts the next cluster, and is bad there
 unfoldable pub clusters : List ℕ → List Cluster
 clusters [] = []
 clusters (c ∷ []) = cond (plain c) (one c ∷ []) (bad c ∷ [])

@@ -1,4 +1,4 @@
--- Document 01, 'Titles': the 53 pairs of a letter and a mark whose canonical composition lies in U+00C0 to U+00FF.
+-- Document 01, "Titles": the 53 pairs of a letter and a mark whose canonical composition lies in U+00C0 to U+00FF.
 -- `tools/tables pairs` prints the rows from the Unicode data: by mark, then by letter.
 use Prim.Native.Nat.{ℕ}
 use mathlib.Core.Bool.{cond, _&&_}

@@ -55,7 +55,7 @@ at-parts f (pair l m w ∷ ps) e c A whole split =
     (λ miss.
     at-parts f ps (and-right (f l m w) (each f ps) e) c A (λ p. whole (rw miss p)) (λ l′ m′ p q. split l′ m′ (rw miss p) q))
 
--- 'lies in U+00C0 to U+00FF'
+-- "lies in U+00C0 to U+00FF"
 abbrev pub latin : ℕ → Bool
 latin w = within 0xC0 0xFF w
 
@@ -79,7 +79,7 @@ dataRule l m w =
     not (isMark l)
     && (not (plain m) && (eqb (composite l m) w && cond (latin w) (eqb (joined l m) w) (not (plain w) && noLetter w)))
 
--- 'There are 53 such pairs': each is a decomposition in U+00C0 to U+00FF, and each of these is a pair
+-- "There are 53 such pairs": each is a decomposition in U+00C0 to U+00FF, and each of these is a pair
 pub pairs-ruled : each pairRule pairs ≡ true
 unfolding each found pairs decompositions within member marks isMark composite joined pairRule
 pairs-ruled = refl
@@ -152,7 +152,7 @@ pub composed-told : (l m : ℕ) → eqb (composite l m) 0 ≡ false → Made l m
 unfolding composite
 composed-told l m some = data-told l m (found decompositions l m) (at-found dataRule decompositions data-ruled l m some)
 
--- 'A mark directly after a letter joins it when Unicode's canonical composition of the two lies in U+00C0 to U+00FF', and only then
+-- "A mark directly after a letter joins it when Unicode's canonical composition of the two lies in U+00C0 to U+00FF", and only then
 pub joins-exactly : (l m : ℕ) → joined l m ≡ cond (latin (composite l m)) (composite l m) 0
 joins-exactly l m =
     either (latin (composite l m))

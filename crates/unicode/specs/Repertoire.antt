@@ -1,4 +1,4 @@
--- Document 01, 'Titles': 'Repertoire: U+0020 to U+007E, U+00A0 to U+00FF, and seven marks'.
+-- Document 01, "Titles": "Repertoire: U+0020 to U+007E, U+00A0 to U+00FF, and seven marks".
 use Prim.Native.Nat.{ℕ}
 use mathlib.Core.Bool.{Bool, true, false, _&&_, _||_}
 use mathlib.Core.List.{List, [], _∷_}
@@ -9,14 +9,14 @@ unfoldable pub member : List ℕ → ℕ → Bool
 member [] c = false
 member (x ∷ xs) c = eqb x c || member xs c
 
--- 'seven marks U+0300, 0301, 0302, 0303, 0308, 030A, 0327'
+-- "seven marks U+0300, 0301, 0302, 0303, 0308, 030A, 0327"
 unfoldable pub marks : List ℕ
 marks = 0x300 ∷ 0x301 ∷ 0x302 ∷ 0x303 ∷ 0x308 ∷ 0x30A ∷ 0x327 ∷ []
 
 unfoldable pub isMark : ℕ → Bool
 isMark c = member marks c
 
--- in the repertoire, and no mark: 'U+0020 to U+007E, U+00A0 to U+00FF'
+-- in the repertoire, and no mark: "U+0020 to U+007E, U+00A0 to U+00FF"
 unfoldable pub plain : ℕ → Bool
 plain c = within 0x20 0x7E c || within 0xA0 0xFF c
 
