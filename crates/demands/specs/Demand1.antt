@@ -8,7 +8,8 @@ use native.Mathlib.Omega.{arith}
 use borrow.Author.Tests.{ne-eqb, eqb-true, eqb-false, ltb-true, ltb-false, leb-true, le-leb, lt-ltb, not-true, not-false}
 use lib.Dec.{ltb, leb, eqb}
 use lib.ListN.{length, drop, getD, length-map}
-use Rattle.outcomes.specs.Chain.{chain, chain-each}
+use Rattle.outcomes.specs.ChainLaws.{chain-each}
+use Rattle.outcomes.specs.Chain.{chain}
 use Rattle.lists.specs.TestsLaws.{and-left, and-right, and-both}
 use Rattle.lists.specs.Lists.{all, same}
 use Rattle.lists.specs.ListsLaws.{all-append, same-true, same-false, cons-head, cons-tail, nil-cons}

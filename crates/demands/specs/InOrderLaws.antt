@@ -4,7 +4,8 @@ use mathlib.Core.Bool.{Bool, true, false}
 use mathlib.Core.List.{List, [], _∷_, _++_}
 use mathlib.Core.Logic.{_⊎_, inl, inr}
 use mathlib.Core.Path.{_≡_}
-use Rattle.outcomes.specs.Chain.{chain, chain-each}
+use Rattle.outcomes.specs.ChainLaws.{chain-each}
+use Rattle.outcomes.specs.Chain.{chain}
 use Rattle.lists.specs.TestsLaws.{and-left, and-right}
 use Rattle.lists.specs.Lists.{all}
 use Rattle.demands.specs.InOrder.{Case, Free, Gives, InOrder}

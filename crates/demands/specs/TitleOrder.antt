@@ -9,7 +9,7 @@ use native.Mathlib.Omega.{arith}
 use borrow.Author.Tests.{eqb-true, eqb-false, ltb-true, ltb-false, not-true, not-false}
 use lib.Dec.{ltb, eqb}
 use lib.ListN.{length}
-use Rattle.outcomes.specs.Chain.{chain-each}
+use Rattle.outcomes.specs.ChainLaws.{chain-each}
 use Rattle.lists.specs.Lists.{all}
 use Rattle.lists.specs.ListsLaws.{all-append}
 use Rattle.outcomes.specs.Refusals.{accepted, noRoom, titleLong, notUtf8, outsideRepertoire, looseMark}

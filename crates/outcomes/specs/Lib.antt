@@ -3,4 +3,5 @@ pub mod Refusals
 pub mod Outcome
 pub mod Chain
 -- Laws:
+pub mod ChainLaws
 pub mod OutcomeLaws

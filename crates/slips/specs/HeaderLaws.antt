@@ -9,7 +9,7 @@ use lib.Dec.{ltb, eqb}
 use native.Mathlib.Nat.{lt-of-lt-of-le}
 use lib.Pow.{pow-mono}
 use lib.ListN.{length, take, drop, length-take}
-use Rattle.outcomes.specs.Chain.{chain-each}
+use Rattle.outcomes.specs.ChainLaws.{chain-each}
 use Rattle.bits.specs.Bits.{bitsOf}
 use Rattle.bits.specs.FieldLaws.{num-small}
 use Rattle.trees.specs.Rules.{maxBytes, maxNodes}

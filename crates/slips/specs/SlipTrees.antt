@@ -8,7 +8,7 @@ use borrow.Author.Tests.{eq-eqb, eqb-true, eqb-false, lt-ltb, ltb-true, not-fals
 use lib.Dec.{ltb, eqb}
 use lib.Pow.{pow-pos}
 use lib.ListN.{length, drop, replicate, length-replicate}
-use Rattle.outcomes.specs.Chain.{chain-each}
+use Rattle.outcomes.specs.ChainLaws.{chain-each}
 use Rattle.bits.specs.Bits.{bitsIn, bitsOf, numOf}
 use Rattle.lists.specs.Lists.{Below, all}
 use Rattle.lists.specs.ListsLaws.{below-drop}
