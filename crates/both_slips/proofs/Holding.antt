@@ -174,9 +174,9 @@ module _ {s u : List ℕ} {a b : Opened} {types counts lengths area values label
       let root : a .answer .label ≡ label Sha256.label (slipTree s) = ap (λ (q : Answer). q .label) (o .answer ∙ x .answer) in
       let root2 : b .answer .label ≡ label Sha256.label (slipTree u) = ap (λ (q : Answer). q .label) (k .opens .answer ∙ z .answer) in
       record {
-        types-long = t;
-        counts-long = c;
-        lengths-long = n;
+        types-room = t;
+        counts-room = c;
+        lengths-room = n;
         alike = record { types = x .well .root ∙ sym (z .well .root); labels = sym root ∙ l ∙ root2 };
         labelled = sym root ∙ ap (λ (q : Answer). q .label) (sym g);
         two = two-held;

@@ -68,9 +68,9 @@ pub record BothAsks (s : List ℕ) (n : ℕ) (u : List ℕ) (m : ℕ) (types cou
 
 -- the columns, cut at the rows of both, with the areas hold the trees of two slips with one root label
 pub record Tables (s u : List ℕ) (r : Pair) (types counts lengths values labels : List ℕ) : Type 0 where
-  pub types-long : r .rows ≤ length types
-  pub counts-long : r .rows ≤ length counts
-  pub lengths-long : r .rows ≤ length lengths
+  pub types-room : r .rows ≤ length types
+  pub counts-room : r .rows ≤ length counts
+  pub lengths-room : r .rows ≤ length lengths
   pub alike : Alike Sha256.label (slipTree s) (slipTree u)
   pub labelled : label Sha256.label (slipTree s) ≡ r .answer .label
   pub two :

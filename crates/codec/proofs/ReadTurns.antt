@@ -16,7 +16,8 @@ use Rattle.tables.specs.Tables.{entryOf, entries, firstBad, sum}
 use Rattle.tables.specs.TablesLaws.{length-entries}
 use Rattle.codec.specs.Reading.{Read, short, readOne, Reading, add, after, readAll}
 use Rattle.codec.specs.TableLaws.{entries-snoc, sum-snoc, form-snoc}
-use Rattle.codec.specs.Reader.{headBits, RowIs, FillAsks, FillGives}
+use Rattle.tables.specs.Limits.{headerBits}
+use Rattle.codec.specs.Reader.{RowIs, FillAsks, FillGives}
 use Rattle.codec.specs.declared.row.Row.{Row}
 
 -- rows read before
@@ -25,18 +26,18 @@ adds es x = record { rows = es ++ x .rows; rest = x .rest; whole = x .whole }
 
 -- the rows so far, with what the bits from `at` on still give, are what the whole gives
 pub record Going (s : List ℕ) (n : ℕ) (T C L W : List ℕ) (at used i : ℕ) : Type 0 where
-  pub left : readAll n (drop headBits (bitsOf s)) ≡ adds (entries (take i T) (take i C) (take i L) (take used W)) (readAll (n - i) (drop at (bitsOf s)))
+  pub left : readAll n (drop headerBits (bitsOf s)) ≡ adds (entries (take i T) (take i C) (take i L) (take used W)) (readAll (n - i) (drop at (bitsOf s)))
   pub few : i ≤ n
   pub form : firstBad 0 (take i T) (take i C) (take i L) ≡ i
   pub sums : used ≡ sum (take i L)
   pub packed : 8 * used ≤ at
   pub within : at ≤ 8 * length s
 
-pub started : (s : List ℕ) (n : ℕ) (T C L W : List ℕ) → FillAsks s n T C L W → Going s n T C L W headBits 0 0
+pub started : (s : List ℕ) (n : ℕ) (T C L W : List ℕ) → FillAsks s n T C L W → Going s n T C L W headerBits 0 0
 unfolding firstBad sum
 started s n T C L W a =
     record {
-      left = ap (λ (k : ℕ). readAll k (drop headBits (bitsOf s))) (omega arith);
+      left = ap (λ (k : ℕ). readAll k (drop headerBits (bitsOf s))) (omega arith);
       few = omega arith;
       form = refl;
       sums = refl;
@@ -108,10 +109,10 @@ module _ {s : List ℕ} {n : ℕ} {T C L W : List ℕ} {at used i : ℕ} (g : Go
   -- the end, where the bits from `at` on give nothing more
   ended : (w : Bool) → n ≤ length T → n ≤ length C → n ≤ length L → length s ≤ length W
       → readAll (n - i) (drop at (bitsOf s)) ≡ record { rows = []; rest = drop at (bitsOf s); whole = w }
-      → FillGives s n (readAll n (drop headBits (bitsOf s))) (record { rows = i; used = used; at = at; whole = w }) T C L W
+      → FillGives s n (readAll n (drop headerBits (bitsOf s))) (record { rows = i; used = used; at = at; whole = w }) T C L W
   ended w hT hC hL hW e =
       let before : List Entry = entries (take i T) (take i C) (take i L) (take used W) in
-      let x : Reading = readAll n (drop headBits (bitsOf s)) in
+      let x : Reading = readAll n (drop headerBits (bitsOf s)) in
       let end : x ≡ record { rows = before ++ []; rest = drop at (bitsOf s); whole = w } = g .left ∙ ap (adds before) e in
       let rows : before ≡ x .rows = sym (ap (λ (y : Reading). y .rows) end ∙ append-nil before) in
       let lT : length (take i T) ≡ i = length-take-le i T (omega (arith, g .few)) in
@@ -132,7 +133,7 @@ module _ {s : List ℕ} {n : ℕ} {T C L W : List ℕ} {at used i : ℕ} (g : Go
 
   -- all that were asked for are read
   pub ended-whole : n ≤ i → n ≤ length T → n ≤ length C → n ≤ length L → length s ≤ length W
-      → FillGives s n (readAll n (drop headBits (bitsOf s))) (record { rows = i; used = used; at = at; whole = eqb i n }) T C L W
+      → FillGives s n (readAll n (drop headerBits (bitsOf s))) (record { rows = i; used = used; at = at; whole = eqb i n }) T C L W
   unfolding readAll
   ended-whole h hT hC hL hW =
       let none : n - i ≡ 0 = omega arith in
@@ -143,7 +144,7 @@ module _ {s : List ℕ} {n : ℕ} {T C L W : List ℕ} {at used i : ℕ} (g : Go
 
   -- the bits end inside an entry
   pub ended-short : i < n → readOne (drop at (bitsOf s)) ≡ short → n ≤ length T → n ≤ length C → n ≤ length L → length s ≤ length W
-      → FillGives s n (readAll n (drop headBits (bitsOf s))) (record { rows = i; used = used; at = at; whole = eqb i n }) T C L W
+      → FillGives s n (readAll n (drop headerBits (bitsOf s))) (record { rows = i; used = used; at = at; whole = eqb i n }) T C L W
   unfolding readAll
   ended-short h e hT hC hL hW =
       let count : n - i ≡ suc (n - (i + 1)) = omega arith in

@@ -13,13 +13,12 @@ use Rattle.bits.specs.Ink.{ink, PenReady, PutAsks, PutGives, FinishGives}
 use Rattle.bits.specs.InkLaws.{start, ink-start, ready-start, length-ink, rest-later, wrote-both, room-less, room-after}
 use Rattle.bits.specs.declared.pen.Pen.{Pen}
 use Rattle.trees.specs.Rows.{Entry}
-use Rattle.tables.specs.Limits.{edition, editionBits, countBits}
+use Rattle.tables.specs.Limits.{edition, editionBits, countBits, headerBits}
 use Rattle.tables.specs.Tables.{entryOf, entries, rowFits, firstBad, sum, Columns, FormedIn}
 use Rattle.tables.specs.TablesLaws.{length-entries}
 use Rattle.codec.specs.Writing.{entryBits, allBits, slipBits, slipOf}
 use Rattle.codec.specs.TableLaws.{entries-off, form-off, sum-off}
 use Rattle.codec.specs.MeasureLaws.{slip-bits-long, slip-bytes-long}
-use Rattle.codec.specs.Reader.{headBits}
 use Rattle.codec.specs.Writer.{WriteAsks, WriteGives}
 
 -- the header's bits of n rows
@@ -149,10 +148,10 @@ module _ (T C L W out : List ℕ) (a : WriteAsks T C L W out) where
             );
       }
 
-  pub head-room : PutAsks start headBits out
+  pub head-room : PutAsks start headerBits out
   head-room =
       let n : ℕ = length T in
-      room-less start headBits (length (head n) + length (allBits (entries T C L W))) out
+      room-less start headerBits (length (head n) + length (allBits (entries T C L W))) out
       (omega (arith, length-append (bitsIn editionBits edition) (bitsIn countBits n), length-bitsIn editionBits edition, length-bitsIn countBits n))
       all-room
 

@@ -8,7 +8,7 @@ use Rattle.bits.specs.Bits.{bitsIn, bitsOf, numOf, octets, packed}
 use Rattle.trees.specs.Rows.{Entry, node, tip}
 use Rattle.codec.specs.Writing.{leafBits, entryBits, allBits, slipBits, slipOf}
 use Rattle.codec.specs.Reading.{readValue, readLeaf, readRest, readOne, readAll}
-use Rattle.codec.specs.Reader.{headBits}
+use Rattle.tables.specs.Limits.{headerBits}
 
 -- "`04 01 00 1f`, then 31 bytes `ff`, then `e0`": one dangling root
 abbrev bare : List ℕ
@@ -18,12 +18,12 @@ bare-written : slipOf (tip 0 (replicate 32 255) ∷ []) ≡ bare
 unfolding slipOf slipBits allBits entryBits leafBits packed octets numOf bitsOf bitsIn
 bare-written = refl
 
-bare-read : readAll 1 (drop headBits (bitsOf bare)) ≡ record { rows = tip 0 (replicate 32 255) ∷ []; rest = replicate 5 0; whole = true }
+bare-read : readAll 1 (drop headerBits (bitsOf bare)) ≡ record { rows = tip 0 (replicate 32 255) ∷ []; rest = replicate 5 0; whole = true }
 unfolding readAll readOne readRest readLeaf readValue octets numOf bitsOf bitsIn
 bare-read = refl
 
 -- "without it: 2 at 0": the bits end inside the entry
-bare-short : readAll 1 (drop headBits (bitsOf (take 35 bare))) .whole ≡ false
+bare-short : readAll 1 (drop headerBits (bitsOf (take 35 bare))) .whole ≡ false
 unfolding readAll readOne readRest readLeaf readValue octets numOf bitsOf bitsIn
 bare-short = refl
 

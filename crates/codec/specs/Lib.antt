@@ -2,7 +2,6 @@
 pub mod Writing
 pub mod Reading
 pub mod Proper
-pub mod Measure
 -- What the reader and the writer ask and give:
 pub mod Reader
 pub mod Writer

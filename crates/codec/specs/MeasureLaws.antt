@@ -10,11 +10,11 @@ use Rattle.bits.specs.FieldLaws.{length-bitsIn}
 use Rattle.bits.specs.ByteLaws.{length-bitsOf, length-packed}
 use Rattle.trees.specs.Rules.{labelBytes}
 use Rattle.trees.specs.Rows.{Entry, node, tip}
-use Rattle.tables.specs.Limits.{edition, editionBits, countBits, childBits, typeBits, lengthBits}
+use Rattle.tables.specs.Limits.{edition, editionBits, countBits, headerBits, childBits, typeBits, lengthBits}
+use Rattle.tables.specs.Measure.{rowBits, rowsBits, tableBits}
 use Rattle.tables.specs.Tables.{entryOf, entries, sum}
 use Rattle.codec.specs.Writing.{leafBits, entryBits, allBits, slipBits, slipOf}
 use Rattle.codec.specs.TableLaws.{column-off}
-use Rattle.codec.specs.Measure.{rowBits, rowsBits, tableBits}
 
 -- "An entry takes 6, 267 or 20 + 8 × length bits."
 pub node-long : (k : ℕ) → length (entryBits (node k)) ≡ 6
@@ -58,7 +58,7 @@ rows-long (t ∷ ts) (c ∷ cs) (l ∷ ls) vs h =
     (rows-long ts cs ls (drop l vs) (omega (arith, length-drop l vs)))
 
 -- the header's bits and the entries'
-pub slip-bits-long : (es : List Entry) → length (slipBits es) ≡ editionBits + countBits + length (allBits es)
+pub slip-bits-long : (es : List Entry) → length (slipBits es) ≡ headerBits + length (allBits es)
 unfolding slipBits
 slip-bits-long es =
     omega (
@@ -78,7 +78,7 @@ slip-bytes-long es = length-packed (slipBits es)
 pub slip-measured : (ts cs ls vs : List ℕ) → sum ls ≤ length vs → length (slipBits (entries ts cs ls vs)) ≡ tableBits ts cs ls
 unfolding tableBits
 slip-measured ts cs ls vs h =
-    slip-bits-long (entries ts cs ls vs) ∙ ap (λ (k : ℕ). editionBits + countBits + k) (rows-long ts cs ls vs h)
+    slip-bits-long (entries ts cs ls vs) ∙ ap (λ (k : ℕ). headerBits + k) (rows-long ts cs ls vs h)
 
 pub slip-bytes-measured : (ts cs ls vs : List ℕ) → sum ls ≤ length vs → length (slipOf (entries ts cs ls vs)) ≡ (tableBits ts cs ls + 7) / 8
 slip-bytes-measured ts cs ls vs h =
@@ -114,6 +114,6 @@ pub rows-bits-none : (T C L : List ℕ) (i : ℕ) → length T ≤ i → rowsBit
 unfolding rowsBits
 rows-bits-none T C L i h = ap (λ (l : List ℕ). rowsBits l (drop i C) (drop i L)) (drop-of-length-le T {i = i} h)
 
-pub table-bits-start : (T C L : List ℕ) → editionBits + countBits + rowsBits T C L ≡ tableBits T C L
+pub table-bits-start : (T C L : List ℕ) → headerBits + rowsBits T C L ≡ tableBits T C L
 unfolding tableBits
 table-bits-start T C L = refl

@@ -6,7 +6,7 @@ use Prim.Native.Nat.{ℕ, _+_, _*_, _≤_}
 use lib.ListN.{length, take, drop}
 use Rattle.bits.specs.Bits.{bitsOf, octets}
 use Rattle.trees.specs.Rules.{maxNodes, maxBytes}
-use Rattle.tables.specs.Limits.{editionBits, countBits}
+use Rattle.tables.specs.Limits.{headerBits}
 use Rattle.tables.specs.Tables.{entryOf, entries, rowFits, firstBad, sum}
 use Rattle.codec.specs.Reading.{Read, short, got, Reading}
 use Rattle.codec.specs.declared.fill.Filled.{Filled}
@@ -28,13 +28,9 @@ pub record RowGives (s : List ℕ) (at : ℕ) (x : Read) (r : Row) : Type 0 wher
   pub missing : r .whole ≡ false → x ≡ short
   pub there : r .whole ≡ true → RowIs s at x r
 
--- the header's bits
-abbrev pub headBits : ℕ
-headBits = editionBits + countBits
-
 -- a slip with a header, and room for n rows and the values
 pub record FillAsks (s : List ℕ) (n : ℕ) (types counts lengths values : List ℕ) : Type 0 where
-  pub head : headBits ≤ 8 * length s
+  pub head : headerBits ≤ 8 * length s
   pub long : length s ≤ maxBytes
   pub few : n ≤ maxNodes
   pub types-room : n ≤ length types

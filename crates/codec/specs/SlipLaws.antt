@@ -13,10 +13,9 @@ use Rattle.bits.specs.FieldLaws.{length-bitsIn, below-bitsIn}
 use Rattle.bits.specs.ByteLaws.{padding, padding-few, below-bitsOf, bitsOf-packed, packed-is, below-octets}
 use Rattle.trees.specs.Rules.{maxNodes}
 use Rattle.trees.specs.Rows.{Entry, node, tip}
-use Rattle.tables.specs.Limits.{edition, editionBits, countBits, childBits, typeBits, lengthBits}
+use Rattle.tables.specs.Limits.{edition, editionBits, countBits, childBits, typeBits, lengthBits, headerBits}
 use Rattle.codec.specs.Writing.{leafBits, entryBits, allBits, slipBits, slipOf}
 use Rattle.codec.specs.Reading.{Reading, readAll}
-use Rattle.codec.specs.Reader.{headBits}
 use Rattle.codec.specs.Proper.{AllProper}
 use Rattle.codec.specs.RoundTrip.{field-value, field-rest, field-back, read-all-written, Was, read-all-was}
 
@@ -55,12 +54,12 @@ bitsOf-slip es = bitsOf-packed (slipBits es) (below-slipBits es)
 -- ---- bytes that read as a slip of n entries, with nothing but padding behind them
 
 pub record Reads (s : List ℕ) (n : ℕ) (es : List Entry) : Type 0 where
-  pub head : headBits ≤ length (bitsOf s)
+  pub head : headerBits ≤ length (bitsOf s)
   pub edition-is : numOf (take editionBits (bitsOf s)) ≡ edition
   pub count-is : numOf (take countBits (drop editionBits (bitsOf s))) ≡ n
   pub pad : ℕ
   pub few : pad < 8
-  pub rows : readAll n (drop headBits (bitsOf s)) ≡ record { rows = es; rest = replicate pad 0; whole = true }
+  pub rows : readAll n (drop headerBits (bitsOf s)) ≡ record { rows = es; rest = replicate pad 0; whole = true }
 
 -- the slip of proper entries reads back
 pub slip-reads : (es : List Entry) → AllProper es → length es ≤ maxNodes → Reads (slipOf es) (length es) es
@@ -75,11 +74,11 @@ slip-reads es p few =
     ∙ append-assoc (bitsIn editionBits edition) (bitsIn countBits n ++ allBits es) z
     ∙ ap (λ (l : List ℕ). bitsIn editionBits edition ++ l) (append-assoc (bitsIn countBits n) (allBits es) z) in
     let d : drop editionBits (bitsOf (slipOf es)) ≡ c = ap (drop editionBits) b ∙ field-rest editionBits edition c in
-    let r : drop headBits (bitsOf (slipOf es)) ≡ allBits es ++ z =
+    let r : drop headerBits (bitsOf (slipOf es)) ≡ allBits es ++ z =
     sym (drop-drop countBits editionBits (bitsOf (slipOf es))) ∙ ap (drop countBits) d ∙ field-rest countBits n (allBits es ++ z) in
     record {
       head =
-          subst (λ (l : List ℕ). headBits ≤ length l) (sym b)
+          subst (λ (l : List ℕ). headerBits ≤ length l) (sym b)
           (omega (
             arith,
             length-append (bitsIn editionBits edition) c,
@@ -101,8 +100,8 @@ reads-slip s n es bytes r =
     let b : List ℕ = bitsOf s in
     let below : Below 2 b = below-bitsOf s in
     let d : List ℕ = drop editionBits b in
-    let x : List ℕ = drop headBits b in
-    let was : Was n x (readAll n x) = read-all-was n x (below-drop 2 headBits b below) in
+    let x : List ℕ = drop headerBits b in
+    let was : Was n x (readAll n x) = read-all-was n x (below-drop 2 headerBits b below) in
     let rows : readAll n x .rows ≡ es = ap (λ (y : Reading). y .rows) (r .rows) in
     let rest : readAll n x .rest ≡ replicate (r .pad) 0 = ap (λ (y : Reading). y .rest) (r .rows) in
     let count : length es ≡ n = ap length (sym rows) ∙ was .count (ap (λ (y : Reading). y .whole) (r .rows)) in
@@ -126,4 +125,4 @@ slip-unique es fs p q h g e =
     let b : Reads (slipOf es) (length fs) fs = subst (λ (s : List ℕ). Reads s (length fs) fs) (sym e) (slip-reads fs q g) in
     let n : length es ≡ length fs = sym (a .count-is) ∙ b .count-is in
     ap (λ (y : Reading). y .rows)
-    (sym (a .rows) ∙ ap (λ (k : ℕ). readAll k (drop headBits (bitsOf (slipOf es)))) n ∙ b .rows)
+    (sym (a .rows) ∙ ap (λ (k : ℕ). readAll k (drop headerBits (bitsOf (slipOf es)))) n ∙ b .rows)

@@ -3,13 +3,17 @@ use mathlib.Core.Path.{_≡_}
 use mathlib.Core.List.{List, _++_}
 use Prim.Native.Nat.{ℕ, _≤_, _<_, _^_}
 use lib.ListN.{length, drop}
-use Rattle.tables.specs.Tables.{FormedIn, entries}
+use Rattle.tables.specs.Tables.{FormedIn, entries, sum}
+use Rattle.tables.specs.Measure.{tableBits}
 use Rattle.codec.specs.Writing.{slipOf}
-use Rattle.codec.specs.Measure.{tableBits}
 
 pub record MeasureGives (types counts lengths : List ℕ) (r : ℕ) : Type 0 where
   pub bits : r ≡ tableBits types counts lengths
   pub small : r < 2 ^ 30
+
+-- the bytes of the table's slip, whatever the values
+abbrev pub SizeGives : List ℕ → List ℕ → List ℕ → ℕ → Type 0
+SizeGives ts cs ls r = (vs : List ℕ) → sum ls ≤ length vs → r ≡ length (slipOf (entries ts cs ls vs))
 
 -- a table of the form, with its values and room for its slip
 pub record WriteAsks (types counts lengths values out : List ℕ) : Type 0 where

@@ -2,7 +2,8 @@
 ghost use lib.ListN.{drop};
 ghost use Rattle.bits.specs.Bits.{bitsOf};
 ghost use Rattle.codec.specs.Reading.{readAll};
-ghost use Rattle.codec.specs.Reader.{headBits, FillAsks, FillGives};
+ghost use Rattle.tables.specs.Limits.{headerBits};
+ghost use Rattle.codec.specs.Reader.{FillAsks, FillGives};
 use crate::row::row_at;
 use tables::limits::Slip;
 
@@ -24,7 +25,7 @@ pub fn fill(
     values: &mut [u8],
 ) -> Filled
     requires { ⌜ FillAsks (now s) n (now types) (now counts) (now lengths) (now values) ⌝ }
-    ensures { λ r. ⌜ FillGives (now (s .entry)) n (readAll n (drop headBits (bitsOf (now (s .entry))))) r (now (types .exit)) (now (counts .exit)) (now (lengths .exit)) (now (values .exit)) ⌝ }
+    ensures { λ r. ⌜ FillGives (now (s .entry)) n (readAll n (drop headerBits (bitsOf (now (s .entry))))) r (now (types .exit)) (now (counts .exit)) (now (lengths .exit)) (now (values .exit)) ⌝ }
 {
     let mut at = Slip::EDITION_BITS + Slip::COUNT_BITS;
     let mut used = 0;

@@ -1,9 +1,9 @@
 // The size of a table's slip.
 ghost use mathlib.Core.Path.{_≡_};
 ghost use Prim.Native.Nat.{_<_, _≤_};
-ghost use Rattle.codec.specs.Measure.{rowBits, SizeGives};
+ghost use Rattle.tables.specs.Measure.{rowBits};
 ghost use Rattle.tables.specs.Tables.{Columns};
-ghost use Rattle.codec.specs.Writer.{MeasureGives};
+ghost use Rattle.codec.specs.Writer.{MeasureGives, SizeGives};
 use tables::form::cell;
 use tables::limits::Slip;
 

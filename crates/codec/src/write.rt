@@ -8,10 +8,9 @@ ghost use Rattle.bits.specs.Bits.{bitsIn};
 ghost use Rattle.bits.specs.Ink.{PutAsks, PutGives};
 ghost use Rattle.bits.specs.InkLaws.{start};
 ghost use Rattle.trees.specs.Rules.{maxNodes};
-ghost use Rattle.tables.specs.Limits.{edition, editionBits, countBits};
+ghost use Rattle.tables.specs.Limits.{edition, editionBits, countBits, headerBits};
 ghost use Rattle.tables.specs.Tables.{entryOf, rowFits};
 ghost use Rattle.codec.specs.Writing.{entryBits};
-ghost use Rattle.codec.specs.Reader.{headBits};
 ghost use Rattle.codec.specs.Writer.{WriteAsks, WriteGives};
 use bits::pen::Pen;
 use tables::form::cell;
@@ -19,7 +18,7 @@ use tables::limits::Slip;
 
 // "Edition, 6 bits, equal to 1. Node count, 10 bits"
 fn write_head(n: usize, out: &mut [u8]) -> Pen
-    requires { ⌜ (n ≤ maxNodes) × PutAsks start headBits (now out) ⌝ }
+    requires { ⌜ (n ≤ maxNodes) × PutAsks start headerBits (now out) ⌝ }
     ensures { λ r. ⌜ PutGives start (now (out .entry)) (bitsIn editionBits edition ++ bitsIn countBits n) r (now (out .exit)) ⌝ }
 {
     let fresh = Pen {

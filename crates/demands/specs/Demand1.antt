@@ -32,8 +32,8 @@ use Rattle.engine.specs.Engine.{oneTree, rootLabel}
 use Rattle.tables.specs.Cells.{countCell}
 use Rattle.slips.specs.declared.answer.Answer.{Answer}
 use Rattle.slips.specs.Answers.{refused, taken}
-use Rattle.tables.specs.Limits.{edition}
-use Rattle.slips.specs.Check.{headerBits, editionOf, countOf, readingOf, paddingFits, settledTests, settled, headerTests, headerOf, headed, bodyOf, checkOf}
+use Rattle.tables.specs.Limits.{edition, headerBits}
+use Rattle.slips.specs.Check.{editionOf, countOf, readingOf, paddingFits, settledTests, settled, headerTests, headerOf, headed, bodyOf, checkOf}
 use Rattle.outcomes.specs.Outcome.{over}
 use Rattle.slips.specs.SlipTree.{slipTree}
 use Rattle.slips.specs.SlipTreeLaws.{check-tree}

@@ -20,7 +20,8 @@ use Rattle.slips.specs.Check.{paddingFits, settled, headerOf, bodyOf, checkOf}
 use Rattle.send.specs.Sent.{sent}
 use Rattle.join_tables.specs.Joined.{joinedOf}
 use Rattle.join.specs.Join.{joinOf}
-use Rattle.label_cases.specs.Values.{copies, bytes, output}
+use Rattle.trees.specs.Examples.{lengthLabel}
+use Rattle.label_cases.specs.Values.{bytes, output}
 use Rattle.demands.specs.Library.{Arrival, start, Reached, misfits, clashes, ever, Ours, copy, Shown, Same}
 use Rattle.demands.specs.Demand3.{Reaches, demand-3, shown-14}
 
@@ -30,9 +31,9 @@ arrives n v = record { slip = bytes n v; buffer = output 82; bytes = below-octet
 
 -- how a library with the root label l ends: what it holds, no 11 and no 15 on the way, and whether it ever answered 14
 pub record Ends (l : List ℕ) (xs : List Arrival) (held : List ℕ) (shown : Bool) : Type 0 where
-  pub holds : copy copies composedText l xs ≡ held
-  pub fitted : ever copies composedText misfits (start l) xs ≡ false
-  pub clashed : ever copies composedText clashes (start l) xs ≡ shown
+  pub holds : copy lengthLabel composedText l xs ≡ held
+  pub fitted : ever lengthLabel composedText misfits (start l) xs ≡ false
+  pub clashed : ever lengthLabel composedText clashes (start l) xs ≡ shown
 
 -- A root with two children, each a salt and a raw value: one slip shows the first child, one the second; beside them come bytes that are no
 -- slip, and a slip of another root.
@@ -67,21 +68,21 @@ unfolding bitsIn bitsOf numOf octets width within low high tail twoBytes threeBy
 one-two = (record { holds = refl; fitted = refl; clashed = refl }, record { holds = refl; fitted = refl; clashed = refl })
 
 -- two arrivals are not ours
-refused-4 : checkOf copies composedText (malformed .slip) .number ≡ 4
+refused-4 : checkOf lengthLabel composedText (malformed .slip) .number ≡ 4
 unfolding bitsIn bitsOf numOf octets readValue readLeaf readRest readOne readAll paddingFits settled headerOf bodyOf checkOf
 refused-4 = refl
 
-other-root : checkOf copies composedText (stranger .slip) .label ≡ replicate 32 1
+other-root : checkOf lengthLabel composedText (stranger .slip) .label ≡ replicate 32 1
 unfolding bitsIn bitsOf numOf octets readValue readLeaf readRest readOne readAll paddingFits settled headerOf bodyOf checkOf
 other-root = refl
 
-module _ (s : List ℕ) (o : Ours copies composedText root s) where
+module _ (s : List ℕ) (o : Ours lengthLabel composedText root s) where
   not-malformed : malformed .slip ≡ s → ⊥
-  not-malformed e = omega (arith, sym refused-4 ∙ ap (λ (z : List ℕ). checkOf copies composedText z .number) e ∙ o .good)
+  not-malformed e = omega (arith, sym refused-4 ∙ ap (λ (z : List ℕ). checkOf lengthLabel composedText z .number) e ∙ o .good)
 
   not-stranger : stranger .slip ≡ s → ⊥
   not-stranger e =
-      let d : replicate 32 1 ≡ root = sym other-root ∙ ap (λ (z : List ℕ). checkOf copies composedText z .label) e ∙ o .root in
+      let d : replicate 32 1 ≡ root = sym other-root ∙ ap (λ (z : List ℕ). checkOf lengthLabel composedText z .label) e ∙ o .root in
       omega (arith, ap (λ (z : List ℕ). getD z 0 0) d)
 
   to : Reached one s → Reached two s
@@ -101,12 +102,12 @@ root-bytes : Below 256 root
 root-bytes = below-replicate 256 32 (omega arith)
 
 -- demand 3 gives these two the same bytes
-pub same-bytes : Same copies composedText root one two
-same-bytes = go (demand-3 copies composedText root refl root-bytes one two to from (one-two .0 .fitted) (one-two .1 .fitted))
+pub same-bytes : Same lengthLabel composedText root one two
+same-bytes = go (demand-3 lengthLabel composedText root refl root-bytes one two to from (one-two .0 .fitted) (one-two .1 .fitted))
   where
-    go : Same copies composedText root one two ⊎ (Shown copies composedText root one × Shown copies composedText root two) → Same copies composedText root one two
+    go : Same lengthLabel composedText root one two ⊎ (Shown lengthLabel composedText root one × Shown lengthLabel composedText root two) → Same lengthLabel composedText root one two
     go (inl s) = s
-    go (inr w) = absurd (true≢false (sym (shown-14 copies composedText root refl root-bytes one (w .0)) ∙ one-two .0 .clashed))
+    go (inr w) = absurd (true≢false (sym (shown-14 lengthLabel composedText root refl root-bytes one (w .0)) ∙ one-two .0 .clashed))
 
 -- "two roots, each a salt of 32 bytes and one raw value of type 600 (00 and 01)"; the prelabels have 41 bytes
 abbrev zero : Arrival
@@ -135,23 +136,23 @@ unfolding bitsIn octets numOf
 apart = (refl, refl)
 
 -- demand 3 gives these two 14, each with the two texts
-pub both-shown : Shown copies composedText clashRoot three × Shown copies composedText clashRoot four
+pub both-shown : Shown lengthLabel composedText clashRoot three × Shown lengthLabel composedText clashRoot four
 both-shown =
-    go (demand-3 copies composedText clashRoot refl (below-replicate 256 32 (omega arith)) three four there back (three-four .0 .fitted) (three-four .1 .fitted))
+    go (demand-3 lengthLabel composedText clashRoot refl (below-replicate 256 32 (omega arith)) three four there back (three-four .0 .fitted) (three-four .1 .fitted))
   where
-    there : Reaches copies composedText clashRoot refl (below-replicate 256 32 (omega arith)) three four
+    there : Reaches lengthLabel composedText clashRoot refl (below-replicate 256 32 (omega arith)) three four
     there s o (inl e) = inr (inl e)
     there s o (inr (inl e)) = inl e
     there s o (inr (inr e)) = absurd e
 
-    back : Reaches copies composedText clashRoot refl (below-replicate 256 32 (omega arith)) four three
+    back : Reaches lengthLabel composedText clashRoot refl (below-replicate 256 32 (omega arith)) four three
     back s o (inl e) = inr (inl e)
     back s o (inr (inl e)) = inl e
     back s o (inr (inr (inl e))) = inr (inl e)
     back s o (inr (inr (inr e))) = absurd e
 
-    go : Same copies composedText clashRoot three four ⊎ (Shown copies composedText clashRoot three × Shown copies composedText clashRoot four)
-        → Shown copies composedText clashRoot three × Shown copies composedText clashRoot four
+    go : Same lengthLabel composedText clashRoot three four ⊎ (Shown lengthLabel composedText clashRoot three × Shown lengthLabel composedText clashRoot four)
+        → Shown lengthLabel composedText clashRoot three × Shown lengthLabel composedText clashRoot four
     go (inl s) =
         absurd (omega (arith, ap (λ (z : List ℕ). getD z 39 0) (sym (three-four .0 .holds) ∙ s .equal ∙ three-four .1 .holds), apart .0, apart .1))
     go (inr w) = w

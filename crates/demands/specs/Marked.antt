@@ -17,7 +17,7 @@ use Rattle.slips.specs.Check.{paddingFits, settled, headerOf, bodyOf, checkOf}
 use Rattle.slips.specs.Cases.{bare, bare-accepted, bare-padding-set, bare-cut, no-nodes, other-edition, no-bytes}
 use Rattle.join_tables.specs.Joined.{clashed, joinedOf}
 use Rattle.join.specs.Join.{joinOf}
-use Rattle.label_cases.specs.Values.{copies}
+use Rattle.trees.specs.Examples.{lengthLabel}
 
 -- a line of the list
 pub data Line : Type 0 where
@@ -35,7 +35,7 @@ Says (composes title bytes) = (out : List ℕ) → length bytes ≤ length out �
 Says (untitled title k p) = (out : List ℕ) → composeOf title out ≡ still (refusal k p) out
 Says (accepts slip b l) = (H : List ℕ → List ℕ) (composed : List ℕ → Bool) → checkOf H composed slip ≡ taken (length slip) b l
 Says (refuses slip k p) = (H : List ℕ → List ℕ) (composed : List ℕ → Bool) → checkOf H composed slip ≡ refused k p
-Says (clashing s u i j) = (composed : List ℕ → Bool) (out : List ℕ) → joinOf copies composed s u out ≡ still (clashed i j) out
+Says (clashing s u i j) = (composed : List ℕ → Bool) (out : List ℕ) → joinOf lengthLabel composed s u out ≡ still (clashed i j) out
 
 abbrev pub All : List Line → Type 0
 All [] = Unit {0}

@@ -11,7 +11,7 @@ use Rattle.trees.specs.Rules.{maxHeight, maxBytes, salted, textFits}
 use Rattle.trees.specs.Places.{Place}
 use Rattle.trees.specs.Join.{ok, clash, join}
 use Rattle.trees.specs.Rows.{Entry, node, tip, rows, number, kids, runOf, grow, grown}
-use Rattle.tables.specs.Limits.{edition}
+use Rattle.tables.specs.Limits.{edition, headerBits}
 use Rattle.outcomes.specs.Refusals.{accepted, tooLong, cutShort, otherEdition, noNodes, notOneTree, badPadding, noRoom, badList, rootsDiffer, joinTooLarge, badTable, childrenMissing, tooHigh, saltBroken, notComposed, clashing}
 use Rattle.tables.specs.Tables.{Table, rowFits, columnsFit, sum}
 use Rattle.codec.specs.Writing.{slipOf}
@@ -19,7 +19,7 @@ use Rattle.engine.specs.Engine.{noLabel}
 use Rattle.tables.specs.Cells.{countCell}
 use Rattle.tables.specs.PruningList.{pruned}
 use Rattle.slips.specs.declared.answer.Answer.{Answer}
-use Rattle.slips.specs.Check.{headerBits, editionOf, countOf, readingOf, paddingFits}
+use Rattle.slips.specs.Check.{editionOf, countOf, readingOf, paddingFits}
 use Rattle.outcomes.specs.Outcome.{Outcome}
 use Rattle.slips.specs.SlipTree.{slipTree}
 use Rattle.pack.specs.Pack.{rowsOf}

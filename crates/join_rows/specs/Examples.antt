@@ -1,26 +1,23 @@
 -- Document 01's clash case as two tables end to end: what the plan asks can be met.
 use mathlib.Core.Path.{_≡_, refl}
 use mathlib.Core.List.{List, [], _∷_, _++_}
-use Prim.Native.Nat.{ℕ, zero, suc, _*_, _%_, _≤_, _<_}
+use Prim.Native.Nat.{ℕ, zero, suc, _*_, _≤_, _<_}
 use native.Mathlib.Omega.{arith}
 use lib.ListN.{length, take, drop, getD, replicate}
-use Rattle.trees.specs.Nodes.{Node, inner, leaf, nil, cons}
+use Rattle.trees.specs.Nodes.{Node, leaf}
 use Rattle.trees.specs.Rules.{labelBytes}
 use Rattle.trees.specs.RowLabels.{labelsOf}
 use Rattle.trees.specs.Join.{clash, join}
 use Rattle.trees.specs.Rows.{rows}
+use Rattle.trees.specs.Examples.{lengthLabel, saltedRoot}
 use Rattle.tables.specs.Tables.{entries, rowFits, firstBad, sum}
 use Rattle.tables.specs.Records.{Holds}
 use Rattle.columns.specs.Columns.{back}
 use Rattle.join_rows.specs.Plans.{TwoTables}
 
--- "Under a label of 32 copies of prelabel length modulo 256"
-abbrev copies : List ℕ → List ℕ
-copies x = replicate 32 (length x % 256)
-
 -- "two roots, each a salt of 32 bytes and one raw value of type 600 (00 and 01)"
 abbrev tree : ℕ → Node
-tree v = inner (cons (leaf 1 (replicate 32 0)) (cons (leaf 600 (v ∷ [])) nil))
+tree v = saltedRoot (leaf 600 (v ∷ []))
 
 abbrev types : List ℕ
 types = 1 ∷ 600 ∷ 0 ∷ 1 ∷ 600 ∷ 0 ∷ []
@@ -41,7 +38,7 @@ labels = replicate 192 41
 -- the table of either tree, wherever its values and labels stand
 held : (v : ℕ) (vs ls : List ℕ) → entries (1 ∷ 600 ∷ 0 ∷ []) (0 ∷ 0 ∷ 2 ∷ []) (32 ∷ 1 ∷ 0 ∷ []) vs ≡ rows (tree v) → 33 ≤ length vs
     → 96 ≤ length ls → take labelBytes (drop (labelBytes * 2) ls) ≡ replicate 32 41
-    → Holds copies (tree v) (1 ∷ 600 ∷ 0 ∷ []) (0 ∷ 0 ∷ 2 ∷ []) (32 ∷ 1 ∷ 0 ∷ []) vs ls
+    → Holds lengthLabel (tree v) (1 ∷ 600 ∷ 0 ∷ []) (0 ∷ 0 ∷ 2 ∷ []) (32 ∷ 1 ∷ 0 ∷ []) vs ls
 unfolding rowFits firstBad sum
 held v vs ls e h k l =
     record {
@@ -54,14 +51,14 @@ held v vs ls e h k l =
       labels-are = labelled;
     }
   where
-    labelled : (k : ℕ) → k < 3 → 0 < getD (0 ∷ 0 ∷ 2 ∷ []) k 0 → take labelBytes (drop (labelBytes * k) ls) ≡ getD (labelsOf copies (tree v)) k []
+    labelled : (k : ℕ) → k < 3 → 0 < getD (0 ∷ 0 ∷ 2 ∷ []) k 0 → take labelBytes (drop (labelBytes * k) ls) ≡ getD (labelsOf lengthLabel (tree v)) k []
     labelled zero h p = absurd (omega arith)
     labelled (suc zero) h p = absurd (omega arith)
     labelled (suc (suc zero)) h p = l
     labelled (suc (suc (suc k))) h p = absurd (omega arith)
 
 -- both tables end to end
-pub example-two : TwoTables copies (tree 0) (tree 1) 3 types counts lengths values labels
+pub example-two : TwoTables lengthLabel (tree 0) (tree 1) 3 types counts lengths values labels
 unfolding sum
 example-two =
     record {
@@ -70,7 +67,7 @@ example-two =
     }
 
 -- their join clashes at the roots, rows 2 and 5
-pub example-clash : join copies (tree 0) (tree 1) ≡ clash []
+pub example-clash : join lengthLabel (tree 0) (tree 1) ≡ clash []
 example-clash = refl
 
 -- two subtrees before row 5 start at row 3

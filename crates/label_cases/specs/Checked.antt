@@ -11,7 +11,8 @@ use Rattle.codec.specs.Reading.{readValue, readLeaf, readRest, readOne, readAll
 use Rattle.slips.specs.declared.answer.Answer.{Answer}
 use Rattle.slips.specs.Answers.{taken}
 use Rattle.slips.specs.Check.{paddingFits, settled, headerOf, bodyOf, checkOf}
-use Rattle.label_cases.specs.Values.{copies, bytes}
+use Rattle.trees.specs.Examples.{lengthLabel}
+use Rattle.label_cases.specs.Values.{bytes}
 
 -- a slip of n bytes, and the answer expected of it
 pub record Case : Type 0 where
@@ -46,6 +47,6 @@ cases =
     accepts 242 0x040b0015d44ae92a956a37454d0c24857e3bfea7cff3b2138ef70e5dd2d7e80754aba720044082099b19ffb2af57e9dff9bf8e654922c8482845eac06dddc8afca4a9a683f7c00c010800f51d1dfd949c13a4a2055f48164329d44dffae14108dffc5fa1b29f6b3534ea80016dbb95c98d7d7bae54071796831c687f782bd58c87b32d5ba01463e3d9cb04a30800c701006235558ee257f9fb34b9877cb3c422aabf173d479a6c73116f7dbdefb60006ccc9f061db6be9c0b567c5e3912a32b4f5c924004480e75e4d3cb66788ac9e80037d99d69be9ea4a2ff87a363e8087625af6a407d05fa4cc441677f7e3f6b466da50 7 (replicate 32 0xd8) ∷
     []
 
-pub cases-agree : map (λ (c : Case). checkOf copies composedText (c .slip)) cases ≡ map (λ (c : Case). c .answer) cases
+pub cases-agree : map (λ (c : Case). checkOf lengthLabel composedText (c .slip)) cases ≡ map (λ (c : Case). c .answer) cases
 unfolding bitsIn bitsOf numOf octets width within low high tail twoBytes threeBytes fourBytes character front chars decode member marks isMark plain allPlain composedText readValue readLeaf readRest readOne readAll paddingFits settled headerOf bodyOf checkOf
 cases-agree = refl

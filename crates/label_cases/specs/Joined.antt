@@ -16,7 +16,8 @@ use Rattle.slips.specs.declared.answer.Answer.{Answer}
 use Rattle.send.specs.Sent.{sent}
 use Rattle.join_tables.specs.Joined.{clashed, joinedOf}
 use Rattle.join.specs.Join.{joinOf}
-use Rattle.label_cases.specs.Values.{copies, bytes, output}
+use Rattle.trees.specs.Examples.{lengthLabel}
+use Rattle.label_cases.specs.Values.{bytes, output}
 
 -- two slips and an output, and the outcome expected
 pub record Case : Type 0 where
@@ -59,6 +60,6 @@ cases =
     clashing (bytes 76 0x040600052525252525252525252525252525252525252525252525252525252525252530001102000d840246f0ebbe6e35b6ba95c3c591334e19c6daf5a867c95edc4a7becbfd2bc00814308) (bytes 81 0x040800220d21fbba75391ccc88a1ecd0abab8a56e50f0872e7338baa8f6046be1d35f69664b00101860002204001b08048de1d77cdc6b6d752b878b22669c338db5eb50cf92bdb894f7d97fa5780103861) 4 6 ∷
     []
 
-pub cases-agree : map (λ (c : Case). joinOf copies composedText (c .first) (c .second) (c .room)) cases ≡ map (λ (c : Case). c .outcome) cases
+pub cases-agree : map (λ (c : Case). joinOf lengthLabel composedText (c .first) (c .second) (c .room)) cases ≡ map (λ (c : Case). c .outcome) cases
 unfolding bitsIn bitsOf numOf octets width within low high tail twoBytes threeBytes fourBytes character front chars decode member marks isMark plain allPlain composedText readValue readLeaf readRest readOne readAll paddingFits settled headerOf bodyOf checkOf leafBits entryBits allBits slipBits slipOf packed sent joinedOf joinOf
 cases-agree = refl

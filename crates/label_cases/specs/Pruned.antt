@@ -17,7 +17,8 @@ use Rattle.slips.specs.declared.answer.Answer.{Answer}
 use Rattle.send.specs.Sent.{sent}
 use Rattle.prune_tables.specs.Pruned.{prunedOf}
 use Rattle.prune.specs.Prune.{pruneOf}
-use Rattle.label_cases.specs.Values.{copies, bytes, output}
+use Rattle.trees.specs.Examples.{lengthLabel}
+use Rattle.label_cases.specs.Values.{bytes, output}
 
 -- a slip and a list, and the outcome expected
 pub record Case : Type 0 where
@@ -52,6 +53,6 @@ cases =
     accepts (bytes 203 0x0407001460ca2efff49a3a0ea9eeb934b016dd904170e2241cb03534b78e34ff6b837d800107abd8323fe8619f24518c0591bbdca79720c29bbbf03ef8de2ca52ee443f85c00140273ef352ea8f92dfff5898d93accd1c3face0a6091299d1fb86a6eea6dfc2000ba7ea4e8d20db4d83e8a1460ba68fcceb0c4feb20cbe41180bfafce52f364c110019101789acf0f95694573c275487d99e246aeb83f5be11726e06e266d98dee83e00030c4637b6f84e582802e34125c06d9fbddf39157a8094e33bed2a53d033d63825) (6 ∷ []) 0 (replicate 32 0xd8) (bytes 36 0x0401001b1b1b1b1b1b1b1b1b1b1b1b1b1b1b1b1b1b1b1b1b1b1b1b1b1b1b1b1b1b1b1b00) ∷
     []
 
-pub cases-agree : map (λ (c : Case). pruneOf copies composedText (c .slip) (c .list) (c .room)) cases ≡ map (λ (c : Case). c .outcome) cases
+pub cases-agree : map (λ (c : Case). pruneOf lengthLabel composedText (c .slip) (c .list) (c .room)) cases ≡ map (λ (c : Case). c .outcome) cases
 unfolding bitsIn bitsOf numOf octets width within low high tail twoBytes threeBytes fourBytes character front chars decode member marks isMark plain allPlain composedText readValue readLeaf readRest readOne readAll paddingFits settled headerOf bodyOf checkOf named firstFault leafBits entryBits allBits slipBits slipOf packed sent prunedOf pruneOf
 cases-agree = refl

@@ -14,7 +14,7 @@ use Rattle.outcomes.specs.Refusals.{accepted, tooLong, noNodes, notOneTree, noR
 use Rattle.tables.specs.Tables.{Table, rowFits, firstBad, columnsFit, rowBad, areaFits, tableFits, sum, Formed}
 use Rattle.tables.specs.TablesLaws.{table-told}
 use Rattle.codec.specs.Writing.{slipOf}
-use Rattle.codec.specs.Measure.{rowBits, rowsBits, tableBits}
+use Rattle.tables.specs.Measure.{rowBits, rowsBits, tableBits}
 use Rattle.codec.specs.MeasureLaws.{slip-bytes-measured, node-bits, dangling-bits, pair-bits}
 use Rattle.codec.specs.ProperLaws.{table-formed}
 use Rattle.codec.specs.TableLaws.{row-cases, form-cons}

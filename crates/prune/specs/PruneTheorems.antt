@@ -18,6 +18,7 @@ use Rattle.trees.specs.PruneLaws.{cut-le, cut-label, cut-none, cut-agree, stays
 use Rattle.trees.specs.Rows.{Entry, node, tip, rows, number}
 use Rattle.trees.specs.NumbersLaws.{number-inj}
 use Rattle.outcomes.specs.Refusals.{accepted, noRoom, badList}
+use Rattle.tables.specs.Measure.{rowBits}
 use Rattle.tables.specs.PruningList.{named, firstFault, pruned}
 use Rattle.codec.specs.Writing.{entryBits, allBits, slipOf}
 use Rattle.codec.specs.MeasureLaws.{node-long, dangling-long, pair-long, slip-bits-long, slip-bytes-long}
@@ -44,7 +45,7 @@ use Rattle.prune.specs.PruneCallLaws.{prune-accepted}
 
 -- the bits that a slip's entries take
 bits-width : (es : List Entry) → AllProper es → length (allBits es) ≡ width es
-unfolding allBits
+unfolding allBits rowBits
 bits-width [] p = refl
 bits-width (node k ∷ es) p = length-append (entryBits (node k)) (allBits es) ∙ ap₂ _+_ (node-long k) (bits-width es (p .1))
 bits-width (tip zero v ∷ es) p =

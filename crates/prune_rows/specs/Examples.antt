@@ -8,6 +8,7 @@ use Rattle.lists.specs.Lists.{same}
 use Rattle.trees.specs.Nodes.{Node, inner, leaf, nil, cons}
 use Rattle.trees.specs.Rows.{node, tip, rows, prunedRows}
 use Rattle.trees.specs.RowLabels.{labelsOf}
+use Rattle.tables.specs.Measure.{rowBits}
 use Rattle.tables.specs.PruningList.{named, firstFault, pruned}
 use Rattle.tables.specs.Cells.{countCell}
 use Rattle.prune_rows.specs.Names.{numbers}
@@ -66,6 +67,7 @@ fault-leaf = refl
 
 -- "An entry takes 6, 267 or 20 + 8 × length bits."
 pub width-each : width (node 2 ∷ tip 0 [] ∷ tip 2 (1 ∷ 2 ∷ []) ∷ []) ≡ 309
+unfolding rowBits
 width-each = refl
 
 -- the internal nodes at one place, and at every place

@@ -1,5 +1,5 @@
 -- A pruned slip is never longer: the bits of its entries.
-use Prim.Native.Nat.{ℕ, zero, suc, _+_, _*_, _≤_}
+use Prim.Native.Nat.{ℕ, zero, suc, _+_, _≤_}
 use mathlib.Core.Bool.{Bool, true, false, not, cond, _&&_, _||_, false≢true}
 use mathlib.Core.Path.{_≡_, refl}
 use mathlib.Core.List.{List, [], _∷_, _++_}
@@ -10,14 +10,15 @@ use borrow.Author.Tests.{leb-true, eqb-true, eq-eqb}
 use Rattle.lists.specs.TestsLaws.{and-left, and-right, or-cases}
 use Rattle.lists.specs.Lists.{all}
 use Rattle.trees.specs.Nodes.{Node, Run, inner, leaf, nil, cons, typeOf, count, size, sizes, label, Head, heads}
-use Rattle.trees.specs.Rules.{saltType, saltBytes, isSalt, saltFirst, saltLong, saltThere, salted, All, AllIn, NodeRules, LeafRules}
+use Rattle.trees.specs.Rules.{labelBytes, saltType, saltBytes, isSalt, saltFirst, saltLong, saltThere, salted, All, AllIn, NodeRules, LeafRules}
 use Rattle.trees.specs.Rows.{Entry, node, tip, rows, rowsIn, prunedRows, prunedRowsIn}
+use Rattle.tables.specs.Measure.{rowBits}
 
--- "An entry takes 6, 267 or 20 + 8 × length bits."
+-- the bits of an entry, that of a dangling node with a label of its length
 abbrev pub entryWidth : Entry → ℕ
-entryWidth (node k) = 6
-entryWidth (tip zero l) = 267
-entryWidth (tip (suc t) v) = 20 + 8 * length v
+entryWidth (node k) = rowBits 0 (suc k) 0
+entryWidth (tip zero v) = rowBits 0 0 labelBytes
+entryWidth (tip (suc t) v) = rowBits (suc t) 0 (length v)
 
 -- the bits of several entries
 abbrev pub width : List Entry → ℕ
@@ -48,7 +49,8 @@ first-long h hs e p =
     (not-salt (isSalt h) (eqb (length (h .text)) saltBytes) (eq-eqb (h .kind) saltType p)
     (and-left (not (isSalt h) || eqb (length (h .text)) saltBytes) (all (λ x. not (isSalt x) || eqb (length (x .text)) saltBytes) hs) long))
 
-leaf-wide : (t : ℕ) (v : List ℕ) → t ≤ saltType → (t ≡ saltType → length v ≡ saltBytes) → 267 ≤ width (tip t v ∷ [])
+leaf-wide : (t : ℕ) (v : List ℕ) → t ≤ saltType → (t ≡ saltType → length v ≡ saltBytes) → entryWidth (tip 0 []) ≤ width (tip t v ∷ [])
+unfolding rowBits
 leaf-wide zero v p q = omega arith
 leaf-wide (suc zero) v p q = omega (arith, q refl)
 leaf-wide (suc (suc t)) v p q = absurd (omega arith)
@@ -65,11 +67,13 @@ module _ (H : List ℕ → List ℕ) (composed : List ℕ → Bool) where
 
   -- somewhere below a node that keeps the rules is a salt or a label of 32 bytes
   mutual
-    first-wide : (n : Node) → typeOf n ≤ saltType → (typeOf n ≡ saltType → length (label H n) ≡ saltBytes) → Keeps n → 267 ≤ width (rows n)
+    unfolding rowBits
+
+    first-wide : (n : Node) → typeOf n ≤ saltType → (typeOf n ≡ saltType → length (label H n) ≡ saltBytes) → Keeps n → entryWidth (tip 0 []) ≤ width (rows n)
     first-wide (inner r) p q k = omega (arith, run-wide r (k .0) (k .1), width-append (rowsIn r) (node (count r) ∷ []))
     first-wide (leaf t v) p q k = leaf-wide t v p q
 
-    run-wide : (r : Run) → NodeRules (heads H r) → KeepsIn r → 267 ≤ width (rowsIn r)
+    run-wide : (r : Run) → NodeRules (heads H r) → KeepsIn r → entryWidth (tip 0 []) ≤ width (rowsIn r)
     run-wide nil k ks = absurd (false≢true (k .children))
     run-wide (cons n r) k ks =
         omega (
@@ -80,6 +84,7 @@ module _ (H : List ℕ → List ℕ) (composed : List ℕ → Bool) where
 
   -- a dangling entry is at least 6 bits narrower than the subtree that it stands for
   pub saves-six : (r : Run) → Keeps (inner r) → entryWidth (tip 0 (label H (inner r))) + 6 ≤ width (rows (inner r))
+  unfolding rowBits
   saves-six r k = omega (arith, run-wide r (k .0) (k .1), width-append (rowsIn r) (node (count r) ∷ []))
 
   either-narrow : (c : Bool) (r : Run) (es : List Entry) → Keeps (inner r) → width es ≤ width (rowsIn r)

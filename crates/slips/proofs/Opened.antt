@@ -9,7 +9,8 @@ use Rattle.bits.specs.Bits.{bitsOf}
 use Rattle.trees.specs.Rows.{Entry, verdict}
 use Rattle.tables.specs.Tables.{entries}
 use Rattle.codec.specs.Reading.{Reading, readAll}
-use Rattle.codec.specs.Reader.{headBits, FillGives}
+use Rattle.tables.specs.Limits.{headerBits}
+use Rattle.codec.specs.Reader.{FillGives}
 use Rattle.codec.specs.declared.fill.Filled.{Filled}
 use Rattle.engine.specs.Engine.{told, RowsLabelled}
 use Rattle.engine.specs.Judging.{JudgeAsks, JudgeGives}
@@ -53,12 +54,12 @@ module _ {s : List ℕ} {n : ℕ} {types₀ counts₀ lengths₀ values₀ label
         }
 
 module _ (s : List ℕ) (n : ℕ) (counted : n ≡ countOf s) {r : Filled} {types counts lengths values : List ℕ}
-    (f : FillGives s n (readAll n (drop headBits (bitsOf s))) r types counts lengths values)
+    (f : FillGives s n (readAll n (drop headerBits (bitsOf s))) r types counts lengths values)
     {j : Judged} {labels : List ℕ}
     (g : JudgeGives (take (r .rows) types) (take (r .rows) counts) (take (r .rows) lengths) (take (r .used) values) j labels)
   where
-    reading : readAll n (drop headBits (bitsOf s)) ≡ readingOf s
-    reading = ap (λ (m : ℕ). readAll m (drop headBits (bitsOf s))) counted
+    reading : readAll n (drop headerBits (bitsOf s)) ≡ readingOf s
+    reading = ap (λ (m : ℕ). readAll m (drop headerBits (bitsOf s))) counted
 
     rows-are : entries (take (r .rows) types) (take (r .rows) counts) (take (r .rows) lengths) (take (r .used) values) ≡ readingOf s .rows
     rows-are = f .rows ∙ ap (λ (x : Reading). x .rows) reading

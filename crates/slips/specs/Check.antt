@@ -1,5 +1,5 @@
 -- What the check answers: "Slip: 1, 2 for the header, 3, 4; then each entry in turn: 2, 5, 6, 7 at its internal node, 8 at its leaf; then 9, 10."
-use Prim.Native.Nat.{ℕ, _+_, _*_}
+use Prim.Native.Nat.{ℕ, _*_}
 use mathlib.Core.Bool.{Bool, not, _&&_}
 use mathlib.Core.List.{List, [], _∷_}
 use lib.Dec.{ltb, eqb}
@@ -8,17 +8,13 @@ use Rattle.outcomes.specs.Chain.{chain}
 use Rattle.bits.specs.Bits.{bitsOf, numOf}
 use Rattle.trees.specs.Rules.{maxBytes}
 use Rattle.trees.specs.Rows.{Tag, Verdict, faulty, left, verdict}
-use Rattle.tables.specs.Limits.{edition, editionBits, countBits}
+use Rattle.tables.specs.Limits.{edition, editionBits, countBits, headerBits}
 use Rattle.outcomes.specs.Refusals.{accepted, tooLong, cutShort, otherEdition, noNodes, notOneTree, badPadding}
 use Rattle.codec.specs.Reading.{Reading, readAll}
 use Rattle.engine.specs.Engine.{oneTree, rootLabel}
 use Rattle.slips.specs.declared.answer.Answer.{Answer}
 use Rattle.slips.specs.declared.header.Header.{Header}
 use Rattle.slips.specs.Answers.{refused, taken}
-
--- "Edition, 6 bits .. Node count, 10 bits"
-abbrev pub headerBits : ℕ
-headerBits = editionBits + countBits
 
 abbrev pub editionOf : List ℕ → ℕ
 editionOf s = numOf (take editionBits (bitsOf s))

@@ -13,11 +13,11 @@ use Rattle.outcomes.specs.ChainLaws.{chain-each}
 use Rattle.bits.specs.Bits.{bitsOf}
 use Rattle.bits.specs.FieldLaws.{num-small}
 use Rattle.trees.specs.Rules.{maxBytes, maxNodes}
-use Rattle.tables.specs.Limits.{edition, editionBits, countBits}
+use Rattle.tables.specs.Limits.{edition, editionBits, countBits, headerBits}
 use Rattle.outcomes.specs.Refusals.{accepted, tooLong, cutShort, otherEdition, noNodes}
 use Rattle.slips.specs.declared.header.Header.{Header}
 use Rattle.slips.specs.Answers.{refused}
-use Rattle.slips.specs.Check.{headerBits, editionOf, countOf, headerTests, headerOf, bodyOf, checkOf}
+use Rattle.slips.specs.Check.{editionOf, countOf, headerTests, headerOf, bodyOf, checkOf}
 use Rattle.slips.specs.Opening.{Counted}
 
 module _ (s : List ℕ) where

@@ -14,7 +14,8 @@ use Rattle.codec.specs.Reading.{Read, short, got, Reading, after, readOne, read
 use Rattle.engine.specs.Engine.{oneTree, rootLabel}
 use Rattle.slips.specs.declared.answer.Answer.{Answer}
 use Rattle.slips.specs.Answers.{refused, taken}
-use Rattle.slips.specs.Check.{headerBits, countOf, readingOf, endTests, settled, bodyOf}
+use Rattle.tables.specs.Limits.{headerBits}
+use Rattle.slips.specs.Check.{countOf, readingOf, endTests, settled, bodyOf}
 
 -- "then 9, 10"
 abbrev pub closed : ℕ → List ℕ → List Tag → ℕ → Answer

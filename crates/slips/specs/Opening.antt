@@ -16,7 +16,8 @@ use Rattle.engine.specs.declared.judge.Judged.{Judged}
 use Rattle.slips.specs.declared.answer.Answer.{Answer}
 use Rattle.slips.specs.declared.open.Opened.{Opened}
 use Rattle.slips.specs.Answers.{refused, taken}
-use Rattle.slips.specs.Check.{headerBits, countOf, readingOf, endTests, bodyOf}
+use Rattle.tables.specs.Limits.{headerBits}
+use Rattle.slips.specs.Check.{countOf, readingOf, endTests, bodyOf}
 
 -- the answer to n bytes, from what the engine tells of the rows read
 unfoldable pub settledBy : ℕ → ℕ → Bool → List ℕ → Judged → Answer

@@ -16,22 +16,21 @@ use Rattle.trees.specs.Rules.{maxBytes}
 use Rattle.trees.specs.Rows.{formed, Tag, tagOf, Verdict, faulty, left, verdict}
 use Rattle.trees.specs.Refused.{Broken, Scattered}
 use Rattle.trees.specs.RefusedLaws.{breaks-number, refused-broken, broken-refused, left-scattered, scattered-left}
-use Rattle.tables.specs.Limits.{edition}
+use Rattle.tables.specs.Limits.{edition, headerBits}
 use Rattle.outcomes.specs.Refusals.{accepted, cutShort, noNodes, notOneTree, badPadding, childrenMissing, notComposed}
 use Rattle.codec.specs.Reading.{Reading}
-use Rattle.codec.specs.Reader.{headBits}
 use Rattle.codec.specs.RoundTrip.{read-all-was}
 use Rattle.engine.specs.Engine.{oneTree}
 use Rattle.slips.specs.declared.answer.Answer.{Answer}
 use Rattle.slips.specs.Answers.{refused}
-use Rattle.slips.specs.Check.{headerBits, editionOf, countOf, readingOf, paddingFits, settled, headerOf, bodyOf, checkOf}
+use Rattle.slips.specs.Check.{editionOf, countOf, readingOf, paddingFits, settled, headerOf, bodyOf, checkOf}
 use Rattle.slips.specs.HeaderLaws.{check-refused, check-body}
 use Rattle.slips.specs.SlipTrees.{proper-formed}
 
 -- the entries read are of the form
 pub read-formed : (s : List ℕ) → all formed (readingOf s .rows) ≡ true
 read-formed s =
-    proper-formed (readingOf s .rows) (read-all-was (countOf s) (drop headBits (bitsOf s)) (below-drop 2 headBits (bitsOf s) (below-bitsOf s)) .proper)
+    proper-formed (readingOf s .rows) (read-all-was (countOf s) (drop headerBits (bitsOf s)) (below-drop 2 headerBits (bitsOf s) (below-bitsOf s)) .proper)
 
 -- the header's refusals are 1 to 4
 header-low : (s : List ℕ) → headerOf s .number ≤ noNodes

@@ -17,7 +17,7 @@ use Rattle.trees.specs.StackLaws.{complete-tree}
 use Rattle.trees.specs.StackSound.{sound-one, built-well-formed}
 use Rattle.outcomes.specs.Refusals.{accepted}
 use Rattle.codec.specs.Reading.{Reading}
-use Rattle.codec.specs.Reader.{headBits}
+use Rattle.tables.specs.Limits.{headerBits}
 use Rattle.codec.specs.RoundTrip.{read-all-was}
 use Rattle.slips.specs.declared.answer.Answer.{Answer}
 use Rattle.slips.specs.Answers.{taken}
@@ -47,7 +47,7 @@ module _ (H : List ℕ → List ℕ) (composed : List ℕ → Bool) where
   reads s e =
       let r : Reading = readingOf s in
       let t = settled-told-by (length s) r (verdict H composed (r .rows)) (verdict-refuses H composed (r .rows)) e in
-      let was = read-all-was (countOf s) (drop headBits (bitsOf s)) (below-drop 2 headBits (bitsOf s) (below-bitsOf s)) in
+      let was = read-all-was (countOf s) (drop headerBits (bitsOf s)) (below-drop 2 headerBits (bitsOf s) (below-bitsOf s)) in
       let built = sound-one H composed (r .rows) (t .root) (t .compressed) (proper-formed (r .rows) (was .proper)) (t .verdict-is) in
       let n : Node = built .tree in
       let well = built-well-formed H composed (r .rows) (t .root) (t .compressed) built (t .kind) in

@@ -25,14 +25,14 @@ use Rattle.trees.specs.StackSound.{Built, sound-one, built-well-formed}
 use Rattle.outcomes.specs.Refusals.{accepted}
 use Rattle.codec.specs.Writing.{slipOf}
 use Rattle.codec.specs.Reading.{Reading, readAll}
-use Rattle.codec.specs.Reader.{headBits}
+use Rattle.tables.specs.Limits.{headerBits}
 use Rattle.codec.specs.Proper.{AllProper}
 use Rattle.codec.specs.RoundTrip.{Was, read-all-was}
 use Rattle.codec.specs.SlipLaws.{Reads, slip-reads, reads-slip, slip-unique}
 use Rattle.engine.specs.Engine.{oneTree, rootLabel}
 use Rattle.slips.specs.declared.answer.Answer.{Answer}
 use Rattle.slips.specs.Answers.{taken}
-use Rattle.slips.specs.Check.{headerBits, countOf, readingOf, paddingFits, settledTests, settled, headerOf, bodyOf, checkOf}
+use Rattle.slips.specs.Check.{countOf, readingOf, paddingFits, settledTests, settled, headerOf, bodyOf, checkOf}
 use Rattle.slips.specs.HeaderLaws.{header-counted, header-told, header-edition-is, check-refused, check-body}
 use Rattle.slips.specs.Verdicts.{Refuses, verdict-refuses}
 
@@ -120,7 +120,7 @@ module _ (H : List ℕ → List ℕ) (composed : List ℕ → Bool) where
       let count : length (rows n) ≤ maxNodes = omega (arith, length-rows n, x .few) in
       let r : Reads s (length (rows n)) (rows n) =
       subst (λ (t : List ℕ). Reads t (length (rows n)) (rows n)) (sym (x .is)) (slip-reads (rows n) (x .proper) count) in
-      ap (λ (y : Reading). y .rows) (ap (λ (k : ℕ). readAll k (drop headBits (bitsOf s))) (r .count-is) ∙ r .rows)
+      ap (λ (y : Reading). y .rows) (ap (λ (k : ℕ). readAll k (drop headerBits (bitsOf s))) (r .count-is) ∙ r .rows)
 
   -- "check accepts .. the slips of well-formed trees .. with that tree's label and blocks"
   pub check-complete : (s : List ℕ) (n : Node) → SlipOf s n → checkOf H composed s ≡ taken (length s) (blocks H n) (label H n)
@@ -133,7 +133,7 @@ module _ (H : List ℕ → List ℕ) (composed : List ℕ → Bool) where
       let some : countOf s ≡ 0 → ⊥ = λ e. omega (arith, r .count-is, length-rows n, some-size n) in
       let h = header-counted s (x .long) head (r .edition-is) some in
       let reading : readingOf s ≡ record { rows = rows n; rest = replicate (r .pad) 0; whole = true } =
-      ap (λ (k : ℕ). readAll k (drop headBits (bitsOf s))) (r .count-is) ∙ r .rows in
+      ap (λ (k : ℕ). readAll k (drop headerBits (bitsOf s))) (r .count-is) ∙ r .rows in
       sym (check-body H composed s (sym (ap (λ y. y .number) h)))
       ∙ rw (reading, complete-tree H composed n (x .well))
       (one-settles s (r .pad) (rows n) n (r .few) (x .well .root))
@@ -146,10 +146,10 @@ module _ (H : List ℕ → List ℕ) (composed : List ℕ → Bool) where
   unfolding bodyOf
   from-body s bytes h e =
       let r : Reading = readingOf s in
-      let bits : List ℕ = drop headBits (bitsOf s) in
+      let bits : List ℕ = drop headerBits (bitsOf s) in
       let t : Settled r (verdict H composed (r .rows)) =
       settled-told-by (length s) r (verdict H composed (r .rows)) (verdict-refuses H composed (r .rows)) e in
-      let was : Was (countOf s) bits r = read-all-was (countOf s) bits (below-drop 2 headBits (bitsOf s) (below-bitsOf s)) in
+      let was : Was (countOf s) bits r = read-all-was (countOf s) bits (below-drop 2 headerBits (bitsOf s) (below-bitsOf s)) in
       let form = proper-formed (r .rows) (was .proper) in
       let built : Built H composed (r .rows) (t .root) (t .compressed) = sound-one H composed (r .rows) (t .root) (t .compressed) form (t .verdict-is) in
       let pad = padding-told (r .rest) (was .below) (t .padding) in

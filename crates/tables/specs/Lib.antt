@@ -1,5 +1,6 @@
 -- The numbers of document 01, and what the unpacked table is. Definitions, in reading order:
 pub mod Limits
+pub mod Measure
 pub mod Areas
 pub mod Tables
 pub mod Cells

@@ -1,5 +1,5 @@
 -- "All these limits bear one name each": those of the slip's bits. The limits of a tree stand in the crate trees.
-use Prim.Native.Nat.{ℕ}
+use Prim.Native.Nat.{ℕ, _+_}
 
 -- "Edition, 6 bits, equal to 1."
 abbrev pub edition : ℕ
@@ -11,6 +11,10 @@ editionBits = 6
 -- "Node count, 10 bits"
 abbrev pub countBits : ℕ
 countBits = 10
+
+-- the header's bits
+abbrev pub headerBits : ℕ
+headerBits = editionBits + countBits
 
 -- "children minus 1 in 5 bits"
 abbrev pub childBits : ℕ

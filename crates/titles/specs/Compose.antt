@@ -1,10 +1,9 @@
 -- Document 01, "Titles", refusals 11 and 17 to 20, "Order": what the composer answers and leaves in the buffer, for every title.
 use Prim.Native.Nat.{ℕ, _+_}
-use mathlib.Core.Path.{_≡_}
 use mathlib.Core.Bool.{Bool, cond, not}
-use mathlib.Core.List.{List, [], _∷_, _++_}
+use mathlib.Core.List.{List, [], _∷_}
 use lib.Dec.{ltb, eqb}
-use lib.ListN.{length, drop}
+use lib.ListN.{length}
 use Rattle.outcomes.specs.Chain.{chain}
 use Rattle.outcomes.specs.Outcome.{Output, still, over}
 use Rattle.outcomes.specs.Refusals.{accepted, noRoom, titleLong, notUtf8, outsideRepertoire, looseMark}

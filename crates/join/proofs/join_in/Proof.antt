@@ -18,22 +18,22 @@ returns c =
     join-refused _ _ _ _ _ (p .one .taken) (p .two .taken) (c .before .before .before .before .before .before .before .before .before .before .before .before .before .hold-both .ensures .answer) (c .before .if1 .taken)
 
 part : tie.Need-slice-reshare-prefix-merge
-part c = c .before .before .before .before .before .before .before .before .before .before .before .before .before .hold-both .ensures .tables (c .before .if1 .left) .types-long
+part c = c .before .before .before .before .before .before .before .before .before .before .before .before .before .hold-both .ensures .tables (c .before .if1 .left) .types-room
 
 count : tie.Need-slice-aggregate-merge
-count c = sym (length-take-le _ _ (c .before .before .before .before .before .before .before .before .before .before .before .before .before .before .hold-both .ensures .tables (c .before .before .if1 .left) .types-long))
+count c = sym (length-take-le _ _ (c .before .before .before .before .before .before .before .before .before .before .before .before .before .before .hold-both .ensures .tables (c .before .before .if1 .left) .types-room))
 
 part-2 : tie.Need-slice-reshare-prefix-merge-2
-part-2 c = c .before .before .before .before .before .before .before .before .before .before .before .before .before .before .hold-both .ensures .tables (c .before .before .if1 .left) .counts-long
+part-2 c = c .before .before .before .before .before .before .before .before .before .before .before .before .before .before .hold-both .ensures .tables (c .before .before .if1 .left) .counts-room
 
 count-2 : tie.Need-slice-aggregate-merge-2
-count-2 c = sym (length-take-le _ _ (c .before .before .before .before .before .before .before .before .before .before .before .before .before .before .before .hold-both .ensures .tables (c .before .before .before .if1 .left) .counts-long))
+count-2 c = sym (length-take-le _ _ (c .before .before .before .before .before .before .before .before .before .before .before .before .before .before .before .hold-both .ensures .tables (c .before .before .before .if1 .left) .counts-room))
 
 part-3 : tie.Need-slice-reshare-prefix-merge-3
-part-3 c = c .before .before .before .before .before .before .before .before .before .before .before .before .before .before .before .hold-both .ensures .tables (c .before .before .before .if1 .left) .lengths-long
+part-3 c = c .before .before .before .before .before .before .before .before .before .before .before .before .before .before .before .hold-both .ensures .tables (c .before .before .before .if1 .left) .lengths-room
 
 count-3 : tie.Need-slice-aggregate-merge-3
-count-3 c = sym (length-take-le _ _ (c .before .before .before .before .before .before .before .before .before .before .before .before .before .before .before .before .hold-both .ensures .tables (c .before .before .before .before .if1 .left) .lengths-long))
+count-3 c = sym (length-take-le _ _ (c .before .before .before .before .before .before .before .before .before .before .before .before .before .before .before .before .hold-both .ensures .tables (c .before .before .before .before .if1 .left) .lengths-room))
 
 merge-requires : tie.Need-merge-requires
 merge-requires c κs =

@@ -4,7 +4,7 @@ use Prim.Native.Nat.{_+_, _-_, _*_, _≤_}
 use native.Mathlib.Omega.{arith}
 use borrow.Author.Needs.{needs}
 use lib.ListN.{length, drop, getD}
-use Rattle.codec.specs.Measure.{rowBits, rowsBits, tableBits}
+use Rattle.tables.specs.Measure.{rowBits, rowsBits, tableBits}
 use Rattle.codec.specs.MeasureLaws.{rows-bits-off, rows-bits-none, table-bits-start}
 use Rattle.codec.proofs.measure.measure.Statement.{statement}
 use Rattle.codec.proofs.measure.measure.Tie as tie

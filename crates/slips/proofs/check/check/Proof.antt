@@ -1,7 +1,7 @@
 use mathlib.Core.Path.{sym, ap, _∙_}
 use Rattle.slips.specs.declared.header.Header.{Header}
 use Rattle.slips.specs.Answers.{refused}
-use Rattle.slips.specs.HeaderLaws.{header-told, header-read, check-refused, check-body}
+use Rattle.slips.specs.HeaderLaws.{header-read, check-refused, check-body}
 use borrow.Author.Needs.{needs}
 use Rattle.slips.proofs.check.check.Statement.{statement}
 use Rattle.slips.proofs.check.check.Tie as tie
@@ -13,9 +13,8 @@ returns c =
 
 small-requires : tie.Need-small-requires
 small-requires c κs =
-    let e = c .before .before .before .before .header-of .ensures in
-    let t = header-told _ (sym (ap (λ (h : Header). h .number) e) ∙ c .before .before .if1 .left) in
-    record { head = t .head; long = c .before .if2 .taken; counted = ap (λ (h : Header). h .count) e ∙ t .counted; few = c .if3 .taken }
+    let t = header-read (c .before .before .before .before .header-of .ensures) (c .before .before .if1 .left) in
+    record { head = t .head; long = c .before .if2 .taken; counted = t .counted; few = c .if3 .taken }
 
 returns-2 : tie.Need-returns-2
 returns-2 c =
