@@ -8,17 +8,15 @@ use calls::answered;
 use tally::Tally;
 use task::Next;
 use task::Task;
-use text_lines::page;
-use text_lines::parts;
 ghost use Prim.Native.Nat.{_<_};
 
 // What an output holds before a task.
 const FILL: u8 = 165;
 
 fn main() {
-    let mut text = [0u8; page::BYTES];
+    let mut text = [0u8; pages::BYTES];
     let at = tally::print(&mut text, run());
-    page::close(&text, at, b"call_bench");
+    pages::close(&text, at, b"call_bench");
 }
 
 // A proved loop ends: this one where the input does, or after more turns than any run takes.

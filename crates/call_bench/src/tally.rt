@@ -2,7 +2,6 @@
 // second sums the first as it grows, so that the order counts too.
 use slips::answer::Answer;
 use std::num;
-use text_lines::page;
 
 pub struct Tally {
     pub accepted: u64,
@@ -77,8 +76,8 @@ fn wide(b: u8) -> u64 {
     b as u64
 }
 
-pub fn print(text: &mut [u8; page::BYTES], t: Tally) -> usize {
+pub fn print(text: &mut [u8; pages::BYTES], t: Tally) -> usize {
     let counts = [t.accepted as usize, t.refused as usize, t.sum as usize];
-    let at = page::numbered(text, 0, b"@ @ @ ", counts);
-    page::numbered(text, at, b"@\n", [t.sums as usize, 0, 0])
+    let at = pages::numbered(text, 0, b"@ @ @ ", counts);
+    pages::numbered(text, at, b"@\n", [t.sums as usize, 0, 0])
 }

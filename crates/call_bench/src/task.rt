@@ -1,7 +1,6 @@
 // A task: five numbers of 16 bits, the more significant byte first, then its two parts. The parts are a slip and either
 // a pruning list, two bytes a name, or a second slip.
 use libc::STDIN_FILENO;
-use text_lines::parts;
 ghost use Prim.Native.Nat.{_≤_, _<_};
 
 // The longest part or output that 16 bits announce, both parts, and the most names that a part holds.

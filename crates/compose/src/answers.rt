@@ -1,8 +1,6 @@
 // What is put on the page for a title.
 use crate::words;
 use outcomes::Refusal;
-use text_lines::page;
-use text_lines::parts;
 use titles::Composed;
 use titles::Title;
 ghost use Prim.Native.Nat.{_+_, _≤_};
@@ -16,7 +14,7 @@ const ROOM: usize = WORD + Title::MAX_BYTES + 1;
 pub fn put(
     title: &[u8],
     line: usize,
-    text: &mut [u8; page::BYTES],
+    text: &mut [u8; pages::BYTES],
     at: usize,
     is_bare: bool,
 ) -> usize {
@@ -28,10 +26,10 @@ pub fn put(
 
 // `composed` and the title, or `refused`, the number and the place. The title is composed where its bytes are to stand,
 // since a refusal writes nothing.
-fn named(title: &[u8], text: &mut [u8; page::BYTES], at: usize) -> usize {
-    let from = page::room(text, at, ROOM);
-    if page::BYTES - ROOM < from {
-        return page::BROKEN;
+fn named(title: &[u8], text: &mut [u8; pages::BYTES], at: usize) -> usize {
+    let from = pages::room(text, at, ROOM);
+    if pages::BYTES - ROOM < from {
+        return pages::BROKEN;
     }
     let r = composed(title, text, from);
     if r.number != Refusal::ACCEPTED {
@@ -49,10 +47,10 @@ fn composed(title: &[u8], text: &mut [u8], from: usize) -> Composed
 }
 
 // The title alone, or its refusal in words.
-fn alone(title: &[u8], line: usize, text: &mut [u8; page::BYTES], at: usize) -> usize {
-    let to = page::room(text, at, ROOM);
-    if page::BYTES < to {
-        return page::BROKEN;
+fn alone(title: &[u8], line: usize, text: &mut [u8; pages::BYTES], at: usize) -> usize {
+    let to = pages::room(text, at, ROOM);
+    if pages::BYTES < to {
+        return pages::BROKEN;
     }
     let r = bare(title, text, to);
     if r.number != Refusal::ACCEPTED {
@@ -67,26 +65,26 @@ fn bare(title: &[u8], text: &mut [u8], to: usize) -> Composed
     titles::compose(title, &mut text[to..])
 }
 
-fn ended(text: &mut [u8; page::BYTES], to: usize, n: usize) -> usize {
+fn ended(text: &mut [u8; pages::BYTES], to: usize, n: usize) -> usize {
     let end = parts::end(text, to, n);
-    page::byte(text, end, b'\n')
+    pages::byte(text, end, b'\n')
 }
 
 // Writes out the titles before a refused one, and says on the page that is empty then why it is refused.
 fn told(
-    text: &mut [u8; page::BYTES],
+    text: &mut [u8; pages::BYTES],
     from: usize,
     line: usize,
     title: &[u8],
     r: Composed,
 ) -> usize {
-    let to = page::flush(text, from);
+    let to = pages::flush(text, from);
     if to == 0 {
         words::complain(text, line, title, r);
     }
     to
 }
 
-fn refused(text: &mut [u8; page::BYTES], from: usize, r: Composed) -> usize {
-    page::numbered(text, from, b"refused @ @\n", [r.number, r.place, 0])
+fn refused(text: &mut [u8; pages::BYTES], from: usize, r: Composed) -> usize {
+    pages::numbered(text, from, b"refused @ @\n", [r.number, r.place, 0])
 }

@@ -9,17 +9,15 @@ mod words;
 use std::num;
 use text_lines::input;
 use text_lines::input::Input;
-use text_lines::page;
-use text_lines::parts;
 
 fn main() {
     let mut area = [0u8; input::ROOM];
-    let mut text = [0u8; page::BYTES];
+    let mut text = [0u8; pages::BYTES];
     run(&mut area, &mut text, 1 < os::arg_count());
 }
 
 // A proved loop ends: this one where the input does, or after more turns than any run takes.
-fn run(area: &mut [u8; input::ROOM], text: &mut [u8; page::BYTES], bare: bool) {
+fn run(area: &mut [u8; input::ROOM], text: &mut [u8; pages::BYTES], bare: bool) {
     let mut r = Input::new();
     let mut line = 0;
     let mut to = 0;
@@ -31,12 +29,12 @@ fn run(area: &mut [u8; input::ROOM], text: &mut [u8; page::BYTES], bare: bool) {
         if r.over {
             break;
         }
-        if to == page::BROKEN {
+        if to == pages::BROKEN {
             break;
         }
         turns -= 1;
     }
-    page::ended(text, to, b"compose", r.failed);
+    pages::ended(text, to, b"compose", r.failed);
 }
 
 // Answers a line. Where none is whole, the answers are written out.
@@ -44,12 +42,12 @@ fn turn(
     area: &[u8; input::ROOM],
     r: Input,
     line: usize,
-    text: &mut [u8; page::BYTES],
+    text: &mut [u8; pages::BYTES],
     to: usize,
     bare: bool,
 ) -> usize {
     if !r.line {
-        return page::flush(text, to);
+        return pages::flush(text, to);
     }
     let whole = parts::bytes(area, r.from, r.to);
     let title = parts::bytes(whole, 0, end_of(whole, r.over));
@@ -60,7 +58,7 @@ fn turn(
 }
 
 // The first title. Where the input is a byte order mark alone, there is none.
-fn first(line: &[u8], last: bool, text: &mut [u8; page::BYTES], to: usize, bare: bool) -> usize {
+fn first(line: &[u8], last: bool, text: &mut [u8; pages::BYTES], to: usize, bare: bool) -> usize {
     let from = behind_mark(line);
     let title = parts::bytes(line, from, line.len());
     if last && title.len() == 0 {

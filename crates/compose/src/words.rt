@@ -1,20 +1,18 @@
 // A refusal in words, a line on standard error.
 use outcomes::Refusal;
-use text_lines::page;
-use text_lines::parts;
 use titles::Composed;
 use titles::Title;
 ghost use Prim.Native.Nat.{_<_};
 
-pub fn complain(text: &mut [u8; page::BYTES], line: usize, title: &[u8], r: Composed) {
+pub fn complain(text: &mut [u8; pages::BYTES], line: usize, title: &[u8], r: Composed) {
     let at = begun(text, line, r);
     let end = reason(text, at, title, r);
-    let to = page::byte(text, end, b'\n');
-    page::complain(text, to);
+    let to = pages::byte(text, end, b'\n');
+    pages::complain(text, to);
 }
 
-fn begun(text: &mut [u8; page::BYTES], line: usize, r: Composed) -> usize {
-    page::numbered(
+fn begun(text: &mut [u8; pages::BYTES], line: usize, r: Composed) -> usize {
+    pages::numbered(
         text,
         0,
         b"line @: refused @ at @: ",
@@ -22,7 +20,7 @@ fn begun(text: &mut [u8; page::BYTES], line: usize, r: Composed) -> usize {
     )
 }
 
-fn reason(text: &mut [u8; page::BYTES], at: usize, title: &[u8], r: Composed) -> usize {
+fn reason(text: &mut [u8; pages::BYTES], at: usize, title: &[u8], r: Composed) -> usize {
     if r.number == Refusal::TITLE_LONG {
         return long(text, at);
     }
@@ -31,18 +29,18 @@ fn reason(text: &mut [u8; page::BYTES], at: usize, title: &[u8], r: Composed) ->
     }
     let to = code(text, at, character(title, r.place));
     if r.number == Refusal::LOOSE_MARK {
-        return page::word(text, to, b" is a mark without a letter that takes it");
+        return pages::word(text, to, b" is a mark without a letter that takes it");
     }
-    page::word(text, to, b" is outside the repertoire")
+    pages::word(text, to, b" is outside the repertoire")
 }
 
-fn long(text: &mut [u8; page::BYTES], at: usize) -> usize {
-    page::numbered(text, at, b"longer than @ bytes", [Title::MAX_BYTES, 0, 0])
+fn long(text: &mut [u8; pages::BYTES], at: usize) -> usize {
+    pages::numbered(text, at, b"longer than @ bytes", [Title::MAX_BYTES, 0, 0])
 }
 
-fn ill(text: &mut [u8; page::BYTES], at: usize, title: &[u8], place: usize) -> usize {
+fn ill(text: &mut [u8; pages::BYTES], at: usize, title: &[u8], place: usize) -> usize {
     let byte = parts::bytes(title, place, parts::end(title, place, 1));
-    page::form(text, at, b"not UTF-8: byte %", [0, 0, 0], byte)
+    pages::form(text, at, b"not UTF-8: byte %", [0, 0, 0], byte)
 }
 
 fn character(title: &[u8], place: usize) -> u32 {
@@ -53,12 +51,12 @@ fn character(title: &[u8], place: usize) -> u32 {
 }
 
 // A character's number: `U+` and four hex digits, or as many as it takes.
-fn code(text: &mut [u8; page::BYTES], at: usize, c: u32) -> usize {
-    let mut to = page::word(text, at, b"U+");
+fn code(text: &mut [u8; pages::BYTES], at: usize, c: u32) -> usize {
+    let mut to = pages::word(text, at, b"U+");
     let mut weight: u32 = 1048576;
     while 0 < weight {
         if weight <= 4096 || weight <= c {
-            to = page::byte(text, to, glyph(c / weight % 16));
+            to = pages::byte(text, to, glyph(c / weight % 16));
         }
         weight /= 16;
     }

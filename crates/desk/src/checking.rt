@@ -4,7 +4,6 @@ use desk_files::messages;
 use desk_files::refusals;
 use outcomes::Refusal;
 use std::num;
-use text_lines::page;
 
 // How many bytes stand on the page, and how many files were refused.
 struct Told {
@@ -14,7 +13,7 @@ struct Told {
 
 // A line for each argument that names a file, and behind them how many were refused.
 pub fn check(count: usize) {
-    let mut text = [0u8; page::BYTES];
+    let mut text = [0u8; pages::BYTES];
     let mut told = Told { to: 0, refused: 0 };
     let mut i = 2;
     while i < count {
@@ -24,8 +23,8 @@ pub fn check(count: usize) {
     ended(&text, told.to, told.refused, i - 2);
 }
 
-fn ended(text: &[u8; page::BYTES], to: usize, refused: usize, files: usize) {
-    if page::flush(text, to) == page::BROKEN {
+fn ended(text: &[u8; pages::BYTES], to: usize, refused: usize, files: usize) {
+    if pages::flush(text, to) == pages::BROKEN {
         messages::cannot_write();
         return;
     }
@@ -34,7 +33,7 @@ fn ended(text: &[u8; page::BYTES], to: usize, refused: usize, files: usize) {
     }
 }
 
-fn file(text: &mut [u8; page::BYTES], told: Told, i: usize) -> Told {
+fn file(text: &mut [u8; pages::BYTES], told: Told, i: usize) -> Told {
     let mut space = [0u8; files::ROOM];
     let n = files::read(i, &mut space);
     if n == files::UNREAD {
@@ -43,7 +42,7 @@ fn file(text: &mut [u8; page::BYTES], told: Told, i: usize) -> Told {
     checked(text, told, i, files::front(&space, n))
 }
 
-fn checked(text: &mut [u8; page::BYTES], told: Told, i: usize, slip: &[u8]) -> Told {
+fn checked(text: &mut [u8; pages::BYTES], told: Told, i: usize, slip: &[u8]) -> Told {
     let a = slips::check::check(slip);
     if a.number == Refusal::ACCEPTED {
         let label = a.label;

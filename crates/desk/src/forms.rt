@@ -8,7 +8,6 @@ use outcomes::Refusal;
 use table_text::faults::Fault;
 use table_text::reading;
 use tables::limits::Slip;
-use text_lines::parts;
 
 pub fn of_file(command: usize) {
     let mut space = [0u8; files::ROOM];

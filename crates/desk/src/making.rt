@@ -6,7 +6,6 @@ use outcomes::Refusal;
 use slips::answer::Answer;
 use slips::header;
 use tables::limits::Slip;
-use text_lines::parts;
 
 // Writes out a slip that was made of the file of argument i, or says how it was refused.
 pub fn put(i: usize, a: Answer, out: &[u8; Slip::MAX_BYTES]) {

@@ -4,8 +4,6 @@ use outcomes::Refusal;
 use slips::header;
 use table_text::writing;
 use tables::limits::Slip;
-use text_lines::page;
-use text_lines::parts;
 
 // No type is so large: in its place the whole table is told.
 pub const ALL: u32 = fields::OVER;
@@ -45,9 +43,9 @@ fn printed(
 }
 
 fn whole(types: &[u16], counts: &[u16], lengths: &[u16], values: &[u8]) {
-    let mut text = [0u8; page::BYTES];
+    let mut text = [0u8; pages::BYTES];
     let to = writing::write(&mut text, types, counts, lengths, values);
-    page::close(&text, to, b"desk");
+    pages::close(&text, to, b"desk");
 }
 
 // Whether the table has the type. The lookup's second record is the same one.
@@ -60,8 +58,8 @@ fn found(kind: u16, i: usize, t: &[u16], c: &[u16], l: &[u16], v: &[u8]) -> bool
 }
 
 fn line(i: usize, kind: usize, value: &[u8]) {
-    let mut text = [0u8; page::BYTES];
+    let mut text = [0u8; pages::BYTES];
     let at = messages::form(&mut text, 0, b"$ ", [0, 0, 0], i);
     let to = writing::pair(&mut text, at, kind, value);
-    page::close(&text, to, b"desk");
+    pages::close(&text, to, b"desk");
 }

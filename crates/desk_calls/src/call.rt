@@ -1,7 +1,6 @@
 // The calls that a request may name, and the fields that each asks for.
 use bytes::scan;
-use text_lines::parts;
-use text_lines::words;
+use parts::words;
 
 // The calls' numbers, in the order of the lines that have their words and their fields.
 pub struct Call {}

@@ -1,13 +1,12 @@
 // The lookup in two records.
 use crate::answer;
-use text_lines::page;
 
 // find TYPE, and of each record TYPES COUNTS LENGTHS VALUES: the answer has the record that holds it and the value
 pub fn find(
     cells: &[u16; fields::CELLS],
     bytes: &[u8; fields::BYTES],
     ends: &[usize; fields::ENDS],
-    text: &mut [u8; page::BYTES],
+    text: &mut [u8; pages::BYTES],
     from: usize,
 ) -> usize {
     let kind = fields::cell(cells, ends, 0);
@@ -21,6 +20,6 @@ pub fn find(
     let v2 = fields::text(bytes, ends, 8);
     let holder = lookup::holder(kind, t1, c1, l1, v1, t2, c2, l2, v2);
     let value = lookup::find(kind, t1, c1, l1, v1, t2, c2, l2, v2);
-    let at = page::decimal(text, from, holder);
+    let at = pages::decimal(text, from, holder);
     answer::bytes(text, at, value)
 }

@@ -2,18 +2,17 @@
 use crate::answer;
 use crate::room;
 use slips::answer::Answer;
-use text_lines::page;
 
 // check SLIP
 pub fn check(
     bytes: &[u8; fields::BYTES],
     ends: &[usize; fields::ENDS],
-    text: &mut [u8; page::BYTES],
+    text: &mut [u8; pages::BYTES],
     at: usize,
 ) -> usize {
     let a = slips::check::check(fields::text(bytes, ends, 0));
     let to = answer::head(text, at, a);
-    page::byte(text, to, b'\n')
+    pages::byte(text, to, b'\n')
 }
 
 // unpack SLIP ROOM ROOM ROOM ROOM: cells of types, counts and lengths, and bytes of values
@@ -21,7 +20,7 @@ pub fn unpack(
     cells: &[u16; fields::CELLS],
     bytes: &[u8; fields::BYTES],
     ends: &[usize; fields::ENDS],
-    text: &mut [u8; page::BYTES],
+    text: &mut [u8; pages::BYTES],
     at: usize,
 ) -> usize {
     let mut types = [room::FILL_CELL; room::MOST];
@@ -49,7 +48,7 @@ fn unpacked(
     counts: &mut [u16],
     lengths: &mut [u16],
     values: &mut [u8],
-    text: &mut [u8; page::BYTES],
+    text: &mut [u8; pages::BYTES],
     at: usize,
 ) -> usize {
     let a = unpack::unpack(slip, types, counts, lengths, values);
@@ -62,7 +61,7 @@ fn told(
     counts: &[u16],
     lengths: &[u16],
     values: &[u8],
-    text: &mut [u8; page::BYTES],
+    text: &mut [u8; pages::BYTES],
     from: usize,
 ) -> usize {
     let mut at = answer::head(text, from, a);

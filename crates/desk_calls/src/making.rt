@@ -3,14 +3,13 @@ use crate::answer;
 use crate::call::Call;
 use crate::room;
 use slips::answer::Answer;
-use text_lines::page;
 
 pub fn made(
     call: usize,
     cells: &[u16; fields::CELLS],
     bytes: &[u8; fields::BYTES],
     ends: &[usize; fields::ENDS],
-    text: &mut [u8; page::BYTES],
+    text: &mut [u8; pages::BYTES],
     at: usize,
 ) -> usize {
     let mut out = [room::FILL; room::MOST];
@@ -33,7 +32,7 @@ fn told(
     bytes: &[u8; fields::BYTES],
     ends: &[usize; fields::ENDS],
     out: &mut [u8],
-    text: &mut [u8; page::BYTES],
+    text: &mut [u8; pages::BYTES],
     at: usize,
 ) -> usize {
     if call == Call::COMPOSE {
@@ -45,9 +44,9 @@ fn told(
 }
 
 // compose TITLE ROOM: the answer has number, place and length, and the buffer
-fn compose(title: &[u8], out: &mut [u8], text: &mut [u8; page::BYTES], at: usize) -> usize {
+fn compose(title: &[u8], out: &mut [u8], text: &mut [u8; pages::BYTES], at: usize) -> usize {
     let a = titles::compose(title, out);
-    page::form(text, at, b"@ @ @ %\n", [a.number, a.place, a.length], out)
+    pages::form(text, at, b"@ @ @ %\n", [a.number, a.place, a.length], out)
 }
 
 // prune SLIP LIST ROOM, join SLIP SLIP ROOM, and pack

@@ -6,10 +6,9 @@ use crate::finding;
 use crate::forms;
 use crate::making;
 use crate::showing;
-use text_lines::page;
 
 // Answers a line behind the `at` bytes of the text.
-pub fn answered(line: &[u8], text: &mut [u8; page::BYTES], at: usize) -> usize {
+pub fn answered(line: &[u8], text: &mut [u8; pages::BYTES], at: usize) -> usize {
     let mut cells = [0u16; fields::CELLS];
     let mut bytes = [0u8; fields::BYTES];
     let mut ends = [0usize; fields::ENDS];
@@ -22,7 +21,7 @@ fn answer_to(
     cells: &[u16; fields::CELLS],
     bytes: &[u8; fields::BYTES],
     ends: &[usize; fields::ENDS],
-    text: &mut [u8; page::BYTES],
+    text: &mut [u8; pages::BYTES],
     at: usize,
 ) -> usize {
     match call {

@@ -3,17 +3,15 @@
 use crate::request;
 use text_lines::input;
 use text_lines::input::Input;
-use text_lines::page;
-use text_lines::parts;
 
 pub fn run() {
     let mut area = [0u8; input::ROOM];
-    let mut text = [0u8; page::BYTES];
+    let mut text = [0u8; pages::BYTES];
     serve(&mut area, &mut text);
 }
 
 // A proved loop ends: this one where the input does, or after more turns than any run takes.
-fn serve(area: &mut [u8; input::ROOM], text: &mut [u8; page::BYTES]) {
+fn serve(area: &mut [u8; input::ROOM], text: &mut [u8; pages::BYTES]) {
     let mut to = 0;
     let mut r = Input::new();
     let mut turns = u64::MAX;
@@ -23,19 +21,19 @@ fn serve(area: &mut [u8; input::ROOM], text: &mut [u8; page::BYTES]) {
         if r.over {
             break;
         }
-        if to == page::BROKEN {
+        if to == pages::BROKEN {
             break;
         }
         turns -= 1;
     }
-    page::ended(text, to, b"desk", r.failed);
+    pages::ended(text, to, b"desk", r.failed);
 }
 
 // Answers a line; where there is none yet, the page is written out.
-fn served(r: Input, area: &[u8; input::ROOM], text: &mut [u8; page::BYTES], to: usize) -> usize {
+fn served(r: Input, area: &[u8; input::ROOM], text: &mut [u8; pages::BYTES], to: usize) -> usize {
     if r.line {
         request::answered(parts::bytes(area, r.from, r.to), text, to)
     } else {
-        page::flush(text, to)
+        pages::flush(text, to)
     }
 }

@@ -1,15 +1,14 @@
 // What the program `show` prints.
-use text_lines::page;
 
 // show SLIP: the answer is the text, as bytes
 pub fn show(
     bytes: &[u8; fields::BYTES],
     ends: &[usize; fields::ENDS],
-    text: &mut [u8; page::BYTES],
+    text: &mut [u8; pages::BYTES],
     at: usize,
 ) -> usize {
-    let mut shown = [0u8; page::BYTES];
+    let mut shown = [0u8; pages::BYTES];
     let n = show_text::slip(&mut shown, 0, fields::text(bytes, ends, 0));
-    let to = page::hex(text, at, page::front(&shown, n));
-    page::byte(text, to, b'\n')
+    let to = pages::hex(text, at, pages::front(&shown, n));
+    pages::byte(text, to, b'\n')
 }

@@ -1,5 +1,5 @@
 // The words that name commands.
-use text_lines::words;
+use parts::words;
 
 // The commands' numbers, in the order of the lines that have their words.
 pub struct Command {}

@@ -2,7 +2,6 @@
 use crate::messages;
 use libc::STDIN_FILENO;
 use table_text::reading::BYTES;
-use text_lines::parts;
 use text_lines::reading;
 use text_lines::reading::Got;
 

@@ -2,9 +2,8 @@
 use crate::refusals;
 use libc::STDOUT_FILENO;
 use outcomes::Refusal;
+use parts::words;
 use table_text::faults;
-use text_lines::page;
-use text_lines::words;
 
 pub fn help() {
     print(
@@ -34,12 +33,12 @@ pub fn print(bytes: &[u8]) {
 }
 
 pub fn cannot_write() {
-    page::say(b"desk", b"cannot write");
+    pages::say(b"desk", b"cannot write");
 }
 
 // How a command is used, by its number; behind the last, how the program is.
 pub fn usage(command: usize) {
-    page::say(
+    pages::say(
         b"desk",
         words::line(
             b"usage: desk check FILE..
@@ -59,7 +58,7 @@ usage: desk COMMAND ..; desk help lists the commands
 
 // A text by its pattern, in which `$` stands for argument i.
 pub fn form(
-    text: &mut [u8; page::BYTES],
+    text: &mut [u8; pages::BYTES],
     at: usize,
     pattern: &[u8],
     numbers: [usize; 3],
@@ -67,18 +66,18 @@ pub fn form(
 ) -> usize {
     let mut space = io::buffer();
     let n = os::arg(i, &mut space);
-    page::form(text, at, pattern, numbers, &space[..n])
+    pages::form(text, at, pattern, numbers, &space[..n])
 }
 
 // Says a text of that kind.
 pub fn said(pattern: &[u8], numbers: [usize; 3], i: usize) {
-    let mut text = [0u8; page::BYTES];
+    let mut text = [0u8; pages::BYTES];
     let to = form(&mut text, 0, pattern, numbers, i);
-    page::complain(&text, to);
+    pages::complain(&text, to);
 }
 
 pub fn no_row(i: usize, line: usize, fault: usize) {
-    let mut text = [0u8; page::BYTES];
+    let mut text = [0u8; pages::BYTES];
     let at = form(
         &mut text,
         0,
@@ -87,11 +86,11 @@ pub fn no_row(i: usize, line: usize, fault: usize) {
         i,
     );
     let to = faults::told(&mut text, at, fault);
-    page::complain(&text, to);
+    pages::complain(&text, to);
 }
 
 pub fn refused(i: usize, refusal: usize, place: usize) {
-    let mut text = [0u8; page::BYTES];
+    let mut text = [0u8; pages::BYTES];
     let at = form(
         &mut text,
         0,
@@ -100,25 +99,25 @@ pub fn refused(i: usize, refusal: usize, place: usize) {
         i,
     );
     let to = refusals::told(&mut text, at, refusal, place, 0);
-    page::complain(&text, to);
+    pages::complain(&text, to);
 }
 
 // A refusal of what the files of a join are together.
 pub fn both_refused(refusal: usize, place: usize, second: usize) {
-    let mut text = [0u8; page::BYTES];
+    let mut text = [0u8; pages::BYTES];
     let at = both(&mut text, refusal, place);
     let to = refusals::told(&mut text, at, refusal, place, second);
-    page::complain(&text, to);
+    pages::complain(&text, to);
 }
 
-fn both(text: &mut [u8; page::BYTES], refusal: usize, place: usize) -> usize {
+fn both(text: &mut [u8; pages::BYTES], refusal: usize, place: usize) -> usize {
     let at = form(text, 0, b"desk: $ and ", [0, 0, 0], 2);
     form(text, at, b"$: refused @ at @", [refusal, place, 0], 3)
 }
 
 // A refusal of a number in a pruning list, and which of three things is wrong with it.
 pub fn unlisted(place: usize, entry: usize, why: usize) {
-    let mut text = [0u8; page::BYTES];
+    let mut text = [0u8; pages::BYTES];
     let at = form(
         &mut text,
         0,
@@ -127,13 +126,13 @@ pub fn unlisted(place: usize, entry: usize, why: usize) {
         2,
     );
     let to = reason(&mut text, at, why);
-    page::complain(&text, to);
+    pages::complain(&text, to);
 }
 
-fn reason(text: &mut [u8; page::BYTES], at: usize, why: usize) -> usize {
+fn reason(text: &mut [u8; pages::BYTES], at: usize, why: usize) -> usize {
     let words = words::line(
         b"no entry\nno internal node\nnot above the one before\n",
         why,
     );
-    page::form(text, at, b"$\n", [0, 0, 0], words)
+    pages::form(text, at, b"$\n", [0, 0, 0], words)
 }

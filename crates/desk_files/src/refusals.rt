@@ -1,13 +1,12 @@
 // What is told of a check: the words of document 01's refusal table, and what stands at the place of a refusal.
 use crate::messages;
 use outcomes::Refusal;
+use parts::words;
 use tables::limits::Slip;
-use text_lines::page;
-use text_lines::words;
 
 // The line of a file in `desk check`; i is the number of its argument.
 pub fn accepted(
-    text: &mut [u8; page::BYTES],
+    text: &mut [u8; pages::BYTES],
     from: usize,
     i: usize,
     length: usize,
@@ -15,11 +14,11 @@ pub fn accepted(
     label: &[u8; Slip::LABEL_BYTES],
 ) -> usize {
     let to = messages::form(text, from, b"$ accepted @ @ ", [length, blocks, 0], i);
-    page::form(text, to, b"%\n", [0, 0, 0], label)
+    pages::form(text, to, b"%\n", [0, 0, 0], label)
 }
 
 pub fn refused(
-    text: &mut [u8; page::BYTES],
+    text: &mut [u8; pages::BYTES],
     from: usize,
     i: usize,
     number: usize,
@@ -31,7 +30,7 @@ pub fn refused(
 
 // What the place is where the number tells, and the words, each behind a colon.
 pub fn told(
-    text: &mut [u8; page::BYTES],
+    text: &mut [u8; pages::BYTES],
     from: usize,
     number: usize,
     place: usize,
@@ -42,7 +41,7 @@ pub fn told(
 }
 
 fn placed(
-    text: &mut [u8; page::BYTES],
+    text: &mut [u8; pages::BYTES],
     from: usize,
     number: usize,
     place: usize,
@@ -50,17 +49,17 @@ fn placed(
 ) -> usize {
     match number {
         Refusal::CUT_SHORT | Refusal::CHILDREN_MISSING..=Refusal::NOT_COMPOSED => {
-            page::numbered(text, from, b": entry @", [place, 0, 0])
+            pages::numbered(text, from, b": entry @", [place, 0, 0])
         }
-        Refusal::BAD_TABLE => page::numbered(text, from, b": row @", [place, 0, 0]),
-        Refusal::CLASHING => page::numbered(text, from, b": entry @: entry @", [place, second, 0]),
+        Refusal::BAD_TABLE => pages::numbered(text, from, b": row @", [place, 0, 0]),
+        Refusal::CLASHING => pages::numbered(text, from, b": entry @: entry @", [place, second, 0]),
         _ => from,
     }
 }
 
 // The table's words, a line a number.
-fn worded(text: &mut [u8; page::BYTES], at: usize, number: usize) -> usize {
-    page::form(
+fn worded(text: &mut [u8; pages::BYTES], at: usize, number: usize) -> usize {
+    pages::form(
         text,
         at,
         b": $\n",

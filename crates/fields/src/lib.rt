@@ -9,7 +9,6 @@
 // of a full area, comes BAD: so it need be looked at only once, at the end.
 use bytes::scan;
 use text_lines::input;
-use text_lines::parts;
 ghost use Prim.Native.Nat.{_≤_, _<_};
 
 // The longest line, in bytes.

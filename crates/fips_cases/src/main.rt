@@ -7,7 +7,6 @@ use libc::STDOUT_FILENO;
 use std::num;
 use text_lines::input;
 use text_lines::input::Input;
-use text_lines::parts;
 use vectors::Told;
 
 fn main() {

@@ -1,8 +1,6 @@
 // Reads a slip from standard input and prints what it discloses, or its refusal.
 use libc::STDIN_FILENO;
 use tables::limits::Slip;
-use text_lines::page;
-use text_lines::parts;
 use text_lines::reading;
 use text_lines::reading::Got;
 
@@ -13,10 +11,10 @@ fn main() {
     let mut slip = [0u8; ROOM];
     let got = reading::all(STDIN_FILENO, &mut slip);
     let Got::Bytes(n) = got else {
-        page::say(b"show", b"cannot read");
+        pages::say(b"show", b"cannot read");
         return;
     };
-    let mut text = [0u8; page::BYTES];
+    let mut text = [0u8; pages::BYTES];
     let at = show_text::slip(&mut text, 0, parts::bytes(&slip, 0, n));
-    page::close(&text, at, b"show");
+    pages::close(&text, at, b"show");
 }

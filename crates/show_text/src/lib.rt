@@ -5,12 +5,10 @@ use slips::header;
 use slips::open;
 use tables::areas::Full;
 use tables::limits::Slip;
-use text_lines::page;
-use text_lines::parts;
 ghost use Rattle.slips.specs.Opening.{Counted};
 ghost use Rattle.trees.specs.Rules.{maxBytes, maxNodes};
 
-pub fn slip(text: &mut [u8; page::BYTES], from: usize, s: &[u8]) -> usize {
+pub fn slip(text: &mut [u8; pages::BYTES], from: usize, s: &[u8]) -> usize {
     let h = header::header_of(s);
     if h.number != Refusal::ACCEPTED {
         return refused(text, from, h.number, 0);
@@ -19,11 +17,11 @@ pub fn slip(text: &mut [u8; page::BYTES], from: usize, s: &[u8]) -> usize {
     opened(text, from, s, n)
 }
 
-fn refused(text: &mut [u8; page::BYTES], from: usize, number: usize, place: usize) -> usize {
-    page::numbered(text, from, b"refused @ @\n", [number, place, 0])
+fn refused(text: &mut [u8; pages::BYTES], from: usize, number: usize, place: usize) -> usize {
+    pages::numbered(text, from, b"refused @ @\n", [number, place, 0])
 }
 
-fn opened(text: &mut [u8; page::BYTES], from: usize, s: &[u8], n: usize) -> usize
+fn opened(text: &mut [u8; pages::BYTES], from: usize, s: &[u8], n: usize) -> usize
     requires { ⌜ Counted (now s) n maxBytes maxNodes ⌝ }
 {
     let mut types = [0u16; Slip::MAX_NODES];
@@ -48,20 +46,20 @@ fn opened(text: &mut [u8; page::BYTES], from: usize, s: &[u8], n: usize) -> usiz
     pairs(text, at, parts::cells(&types, 0, n), &lengths, &values)
 }
 
-fn heading(text: &mut [u8; page::BYTES], from: usize, nodes: usize, a: Answer) -> usize {
+fn heading(text: &mut [u8; pages::BYTES], from: usize, nodes: usize, a: Answer) -> usize {
     let label = a.label;
-    let at = page::numbered(
+    let at = pages::numbered(
         text,
         from,
         b"slip @ @ @\n",
         [Slip::EDITION, nodes, a.blocks],
     );
-    page::form(text, at, b"root %\n", [0, 0, 0], &label)
+    pages::form(text, at, b"root %\n", [0, 0, 0], &label)
 }
 
 // The pairs of type 2 or above, row after row.
 fn pairs(
-    text: &mut [u8; page::BYTES],
+    text: &mut [u8; pages::BYTES],
     from: usize,
     types: &[u16],
     lengths: &[u16],
@@ -82,8 +80,8 @@ fn pairs(
     at
 }
 
-fn pair(text: &mut [u8; page::BYTES], from: usize, kind: usize, value: &[u8]) -> usize {
-    page::form(text, from, b"pair @ @ %\n", [kind, value.len(), 0], value)
+fn pair(text: &mut [u8; pages::BYTES], from: usize, kind: usize, value: &[u8]) -> usize {
+    pages::form(text, from, b"pair @ @ %\n", [kind, value.len(), 0], value)
 }
 
 fn wide(cell: u16) -> usize {

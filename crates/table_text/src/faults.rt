@@ -1,6 +1,5 @@
 // Why a line is no row.
-use text_lines::page;
-use text_lines::words;
+use parts::words;
 
 // The faults, each with the number of the line that has its words.
 pub struct Fault {}
@@ -27,8 +26,8 @@ impl Fault {
     pub const NONE: usize = 9;
 }
 
-pub fn told(text: &mut [u8; page::BYTES], at: usize, fault: usize) -> usize {
-    page::form(
+pub fn told(text: &mut [u8; pages::BYTES], at: usize, fault: usize) -> usize {
+    pages::form(
         text,
         at,
         b"$\n",

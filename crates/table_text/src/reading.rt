@@ -2,9 +2,8 @@
 use crate::faults;
 use crate::faults::Fault;
 use bytes::scan;
+use parts::words;
 use tables::limits::Slip;
-use text_lines::parts;
-use text_lines::words;
 ghost use Prim.Native.Nat.{_<_};
 ghost use Rattle.trees.specs.Rules.{maxNodes};
 

@@ -1,11 +1,9 @@
 // A table's rows put on a page.
 use tables::limits::Slip;
-use text_lines::page;
-use text_lines::parts;
 
 // Answers how many bytes stand on the page.
 pub fn write(
-    text: &mut [u8; page::BYTES],
+    text: &mut [u8; pages::BYTES],
     types: &[u16],
     counts: &[u16],
     lengths: &[u16],
@@ -26,26 +24,26 @@ pub fn write(
 }
 
 fn line(
-    text: &mut [u8; page::BYTES],
+    text: &mut [u8; pages::BYTES],
     from: usize,
     kind: usize,
     count: usize,
     value: &[u8],
 ) -> usize {
     if 0 < count {
-        return page::numbered(text, from, b"inner @\n", [count, 0, 0]);
+        return pages::numbered(text, from, b"inner @\n", [count, 0, 0]);
     }
     if kind == 0 {
-        return page::form(text, from, b"gone %\n", [0, 0, 0], value);
+        return pages::form(text, from, b"gone %\n", [0, 0, 0], value);
     }
     pair(text, from, kind, value)
 }
 
-pub fn pair(text: &mut [u8; page::BYTES], from: usize, kind: usize, value: &[u8]) -> usize {
+pub fn pair(text: &mut [u8; pages::BYTES], from: usize, kind: usize, value: &[u8]) -> usize {
     if legible(kind, value) {
-        return page::form(text, from, b"pair @ % # $\n", [kind, 0, 0], value);
+        return pages::form(text, from, b"pair @ % # $\n", [kind, 0, 0], value);
     }
-    page::form(text, from, b"pair @ %\n", [kind, 0, 0], value)
+    pages::form(text, from, b"pair @ %\n", [kind, 0, 0], value)
 }
 
 // Whether a value is shown as text as well: one of a type of text, and not empty.

@@ -1,10 +1,8 @@
 // The line of a pair, with its value cut where it would pass the room that is left.
-use text_lines::page;
-use text_lines::parts;
 ghost use Prim.Native.Nat.{_≤_};
 
 pub fn text(
-    page: &mut [u8; page::BYTES],
+    page: &mut [u8; pages::BYTES],
     from: usize,
     kind: usize,
     value: &[u8],
@@ -13,10 +11,10 @@ pub fn text(
     requires { ⌜ 3 ≤ room ⌝ }
 {
     if front(value, room) == value.len() {
-        return page::form(page, from, b"pair @ $\n", [kind, 0, 0], value);
+        return pages::form(page, from, b"pair @ $\n", [kind, 0, 0], value);
     }
     let cut = parts::bytes(value, 0, front(value, room - 3));
-    page::form(page, from, b"pair @ $...\n", [kind, 0, 0], cut)
+    pages::form(page, from, b"pair @ $...\n", [kind, 0, 0], cut)
 }
 
 // How many bytes the first characters of a text take, as many as there may be.
@@ -41,7 +39,7 @@ fn begins(b: u8) -> bool {
 }
 
 pub fn hex(
-    page: &mut [u8; page::BYTES],
+    page: &mut [u8; pages::BYTES],
     from: usize,
     kind: usize,
     value: &[u8],
@@ -50,8 +48,8 @@ pub fn hex(
     requires { ⌜ 3 ≤ room ⌝ }
 {
     if value.len() <= room / 2 {
-        return page::form(page, from, b"pair @ %\n", [kind, 0, 0], value);
+        return pages::form(page, from, b"pair @ %\n", [kind, 0, 0], value);
     }
     let cut = parts::bytes(value, 0, (room - 3) / 2);
-    page::form(page, from, b"pair @ %...\n", [kind, 0, 0], cut)
+    pages::form(page, from, b"pair @ %...\n", [kind, 0, 0], cut)
 }

@@ -3,8 +3,6 @@ use crate::cutting;
 use crate::places;
 use table_text::writing;
 use tables::limits::Slip;
-use text_lines::page;
-use text_lines::parts;
 ghost use Prim.Native.Nat.{_≤_};
 
 // How wide a line is, and how much of it a value has at least.
@@ -39,7 +37,7 @@ pub fn draw(
     places::firsts(counts, n, &mut begins);
     let mut rows = [0u16; Slip::MAX_NODES];
     places::order(&begins, n, &mut rows);
-    let mut text = [0u8; page::BYTES];
+    let mut text = [0u8; pages::BYTES];
     let mut to = 0;
     let mut i = 0;
     while i < n {
@@ -54,7 +52,7 @@ pub fn draw(
         to = line(&mut text, to, node, value, label_of(labels, row));
         i += 1;
     }
-    page::close(&text, to, b"desk");
+    pages::close(&text, to, b"desk");
 }
 
 fn value_of<'a>(values: &'a [u8], lengths: &[u16], row: usize) -> &'a [u8] {
@@ -76,7 +74,7 @@ fn label_of(labels: &[u8], row: usize) -> &[u8] {
 }
 
 fn line(
-    text: &mut [u8; page::BYTES],
+    text: &mut [u8; pages::BYTES],
     from: usize,
     node: Node,
     value: &[u8],
@@ -89,40 +87,40 @@ fn line(
 
 // The entry number and what is shown of the label: a pair's is its value, and a node that is gone has it there.
 fn begun(
-    text: &mut [u8; page::BYTES],
+    text: &mut [u8; pages::BYTES],
     from: usize,
     node: Node,
     value: &[u8],
     label: &[u8],
 ) -> usize {
     if 0 < node.count {
-        return page::form(text, from, b"@ % ", [node.row, 0, 0], label);
+        return pages::form(text, from, b"@ % ", [node.row, 0, 0], label);
     }
     let shown = parts::bytes(value, 0, parts::end(value, 0, LABEL));
-    page::form(text, from, b"@ % ", [node.row, 0, 0], shown)
+    pages::form(text, from, b"@ % ", [node.row, 0, 0], shown)
 }
 
 // Two spaces for each node above, of which there are fewer than a tree is high.
-fn indented(text: &mut [u8; page::BYTES], from: usize, depth: usize) -> usize {
+fn indented(text: &mut [u8; pages::BYTES], from: usize, depth: usize) -> usize {
     if Slip::MAX_HEIGHT < depth {
         return from;
     }
     let spaces = b"                                ";
-    page::word(text, from, parts::bytes(spaces, 0, 2 * depth))
+    pages::word(text, from, parts::bytes(spaces, 0, 2 * depth))
 }
 
 // What a node is.
-fn told(text: &mut [u8; page::BYTES], from: usize, node: Node, value: &[u8]) -> usize {
+fn told(text: &mut [u8; pages::BYTES], from: usize, node: Node, value: &[u8]) -> usize {
     if 0 < node.count {
-        return page::numbered(text, from, b"inner @\n", [node.count, 0, 0]);
+        return pages::numbered(text, from, b"inner @\n", [node.count, 0, 0]);
     }
     if node.kind == 0 {
-        return page::word(text, from, b"gone\n");
+        return pages::word(text, from, b"gone\n");
     }
     pair(text, from, node, value)
 }
 
-fn pair(text: &mut [u8; page::BYTES], from: usize, node: Node, value: &[u8]) -> usize {
+fn pair(text: &mut [u8; pages::BYTES], from: usize, node: Node, value: &[u8]) -> usize {
     let room = room(node);
     if writing::legible(node.kind, value) {
         return cutting::text(text, from, node.kind, value, room);

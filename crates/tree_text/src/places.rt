@@ -1,7 +1,6 @@
 // Where the rows of a tree stand when it is drawn. The rows are in post order, so a subtree is a run of rows that
 // ends with its root, and the nodes above a row are those behind it whose run begins no later.
 use tables::limits::Slip;
-use text_lines::parts;
 ghost use Prim.Native.Nat.{_≤_, _<_};
 ghost use Rattle.trees.specs.Rules.{maxNodes};
 

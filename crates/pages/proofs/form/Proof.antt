@@ -1,9 +1,9 @@
--- `text_lines::page::form` is safe and ends.
+-- `pages::form` is safe and ends.
 use Prim.Native.Nat.{_-_}
 use lib.ListN.{length}
 use borrow.Author.Needs.{needs}
-use Rattle.text_lines.proofs.page.form.Statement.{statement}
-use Rattle.text_lines.proofs.page.form.Tie as tie
+use Rattle.pages.proofs.form.Statement.{statement}
+use Rattle.pages.proofs.form.Tie as tie
 
 abbrev Inv-loop : tie.InvT-loop
 Inv-loop page₀ at pattern numbers bytes n₀ k₀ i₀ page n k i = Unit {0}

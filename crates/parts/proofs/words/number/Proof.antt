@@ -1,9 +1,9 @@
--- `text_lines::words::number` is safe and ends: each turn passes a line at least.
+-- `parts::words::number` is safe and ends: each turn passes a line at least.
 use Prim.Native.Nat.{_≤_, _-_}
 use lib.ListN.{length}
 use borrow.Author.Needs.{needs}
-use Rattle.text_lines.proofs.words.number.Statement.{statement}
-use Rattle.text_lines.proofs.words.number.Tie as tie
+use Rattle.parts.proofs.words.number.Statement.{statement}
+use Rattle.parts.proofs.words.number.Tie as tie
 
 abbrev Inv-loop : tie.InvT-loop
 Inv-loop text word number₀ at₀ number at = number ≤ at

@@ -1,9 +1,9 @@
--- `text_lines::page::name` is safe and ends.
+-- `pages::name` is safe and ends.
 use Prim.Native.Nat.{_-_}
 use lib.ListN.{length}
 use borrow.Author.Needs.{needs}
-use Rattle.text_lines.proofs.page.name.Statement.{statement}
-use Rattle.text_lines.proofs.page.name.Tie as tie
+use Rattle.pages.proofs.name.Statement.{statement}
+use Rattle.pages.proofs.name.Tie as tie
 
 abbrev Inv-loop : tie.InvT-loop
 Inv-loop page₀ at text n₀ i₀ page n i = Unit {0}

@@ -1,9 +1,9 @@
--- `text_lines::words::line` is safe and ends: each turn passes a line at least.
+-- `parts::words::line` is safe and ends: each turn passes a line at least.
 use Prim.Native.Nat.{_-_}
 use lib.ListN.{length}
 use borrow.Author.Needs.{needs}
-use Rattle.text_lines.proofs.words.line.Statement.{statement}
-use Rattle.text_lines.proofs.words.line.Tie as tie
+use Rattle.parts.proofs.words.line.Statement.{statement}
+use Rattle.parts.proofs.words.line.Tie as tie
 
 abbrev Inv-loop : tie.InvT-loop
 Inv-loop text number left₀ at₀ left at = Unit {0}

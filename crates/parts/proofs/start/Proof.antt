@@ -1,9 +1,9 @@
--- `text_lines::parts::start` meets its contract: no part ends behind the area.
+-- `parts::start` meets its contract: no part ends behind the area.
 use Prim.Native.Nat.{_≤_, _-_}
 use lib.ListN.{length}
 use borrow.Author.Needs.{needs}
-use Rattle.text_lines.proofs.parts.start.Statement.{statement}
-use Rattle.text_lines.proofs.parts.start.Tie as tie
+use Rattle.parts.proofs.start.Statement.{statement}
+use Rattle.parts.proofs.start.Tie as tie
 
 abbrev Inv-loop : tie.InvT-loop
 Inv-loop area lengths row at₀ i₀ at i = at ≤ length area

@@ -1,9 +1,9 @@
--- `text_lines::parts::byte_room` meets its contract.
+-- `parts::byte_room` meets its contract.
 use native.Mathlib.Omega.{arith}
 use mathlib.Core.Path.{sym}
 use lib.Seq.{length-take-le}
-use Rattle.text_lines.proofs.parts.byte_room.Statement.{statement}
-use Rattle.text_lines.proofs.parts.byte_room.Tie as tie
+use Rattle.parts.proofs.byte_room.Statement.{statement}
+use Rattle.parts.proofs.byte_room.Tie as tie
 
 returns : tie.Need-returns
 returns c = (omega arith, sym (length-take-le _ _ (omega arith)))

@@ -1,9 +1,9 @@
--- `text_lines::page::hex` is safe and ends.
+-- `pages::hex` is safe and ends.
 use Prim.Native.Nat.{_-_}
 use lib.ListN.{length}
 use borrow.Author.Needs.{needs}
-use Rattle.text_lines.proofs.page.hex.Statement.{statement}
-use Rattle.text_lines.proofs.page.hex.Tie as tie
+use Rattle.pages.proofs.hex.Statement.{statement}
+use Rattle.pages.proofs.hex.Tie as tie
 
 abbrev Inv-loop : tie.InvT-loop
 Inv-loop page₀ at bytes n₀ i₀ page n i = Unit {0}

@@ -1,4 +1,6 @@
 // Parts of an area of bytes or of cells.
+pub mod words;
+
 ghost use Prim.Native.Nat.{_≤_, _<_};
 ghost use lib.ListN.{length};
 ghost use Rattle.io.specs.Counts.{Counts};

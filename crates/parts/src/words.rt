@@ -1,5 +1,4 @@
 // Words that go by a number: each stands on a line of a text, and the lines are counted from 0.
-use crate::parts;
 use bytes::scan;
 
 // The line with a number; nothing behind the last.
@@ -9,12 +8,12 @@ pub fn line(text: &[u8], number: usize) -> &[u8] {
     while at < text.len() {
         let end = scan::find(text, at, text.len(), b'\n');
         if left == 0 {
-            return parts::bytes(text, at, end);
+            return crate::bytes(text, at, end);
         }
         left -= 1;
         at = end + 1;
     }
-    parts::bytes(text, 0, 0)
+    crate::bytes(text, 0, 0)
 }
 
 // The number of the line that is a word; behind the last where none is.
@@ -23,7 +22,7 @@ pub fn number(text: &[u8], word: &[u8]) -> usize {
     let mut at = 0;
     while at < text.len() {
         let end = scan::find(text, at, text.len(), b'\n');
-        if check::same(parts::bytes(text, at, end), word) {
+        if check::same(crate::bytes(text, at, end), word) {
             return number;
         }
         number += 1;

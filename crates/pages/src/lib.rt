@@ -1,7 +1,6 @@
 // A page of text, for standard output as a rule. `at` bytes stand on it; each function puts its text behind them and
 // answers how many stand there then. A full page is written out and begun anew. Where that fails the answer is BROKEN,
 // which every function hands on: behind a failed write nothing more is written.
-use crate::parts;
 use libc::STDERR_FILENO;
 use libc::STDOUT_FILENO;
 ghost use Prim.Native.Nat.{_+_, _≤_, _<_};

@@ -1,9 +1,9 @@
--- `text_lines::page::list` is safe and ends.
+-- `pages::list` is safe and ends.
 use Prim.Native.Nat.{_-_}
 use lib.ListN.{length}
 use borrow.Author.Needs.{needs}
-use Rattle.text_lines.proofs.page.list.Statement.{statement}
-use Rattle.text_lines.proofs.page.list.Tie as tie
+use Rattle.pages.proofs.list.Statement.{statement}
+use Rattle.pages.proofs.list.Tie as tie
 
 abbrev Inv-loop : tie.InvT-loop
 Inv-loop page₀ at cells n₀ i₀ page n i = Unit {0}
