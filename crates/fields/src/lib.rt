@@ -6,8 +6,10 @@
 // each takes two digits.
 //
 // A function that decodes is told how far the area is filled, and answers how far it is filled then, or BAD. Of BAD, or
-// of a full area, comes BAD: so it need be looked at only once, at the end.
+// of a full area, comes BAD: so it need be looked at only once, behind a field.
 use bytes::scan;
+pub use digits::OVER;
+pub use digits::number_of;
 use text_lines::input;
 ghost use Prim.Native.Nat.{_≤_, _<_};
 
@@ -29,15 +31,6 @@ pub const ENDS: usize = 2 * PLACES;
 
 pub const BAD: usize = usize::MAX;
 
-// Over every number that a cell holds.
-pub const OVER: u32 = 65536;
-
-// How far the two areas are filled.
-struct Filled {
-    bytes: usize,
-    cells: usize,
-}
-
 // Decodes the fields behind the first word of a line, those that `shape` names, a letter each: b for bytes, l for a list,
 // n for a number. False where the line has others, or more than an area holds, and where line or shape is too long.
 pub fn read(
@@ -55,82 +48,97 @@ pub fn read(
     }
     ends[0] = 0;
     ends[PLACES] = 0;
-    let mut to = Filled { bytes: 0, cells: 0 };
     let mut at = scan::find(line, 0, line.len(), b' ');
     let mut k = 0;
     while k < shape.len() {
-        if line.len() <= at {
-            return false;
-        }
-        let start = at + 1;
-        at = scan::find(line, start, line.len(), b' ');
-        to = decoded(&line[start..at], shape[k], to, cells, bytes);
+        at = field(line, at, shape[k], k, cells, bytes, ends);
         k += 1;
-        ends[k] = to.bytes;
-        ends[PLACES + k] = to.cells;
     }
-    to.bytes != BAD && to.cells != BAD && at == line.len()
+    at == line.len()
 }
 
-fn decoded(
-    field: &[u8],
+// Decodes field k, which starts behind the space at `at`, and answers where it ends, or BAD.
+fn field(
+    line: &[u8],
+    at: usize,
     kind: u8,
-    from: Filled,
+    k: usize,
     cells: &mut [u16; CELLS],
     bytes: &mut [u8; BYTES],
-) -> Filled {
-    let mut to = from;
-    if kind == b'n' {
-        to.cells = one(field, cells, from.cells);
-        return to;
+    ends: &mut [usize; ENDS],
+) -> usize
+    requires { ⌜ k < 9 ⌝ }
+{
+    if line.len() <= at {
+        return BAD;
     }
-    if check::same(field, b"-") {
-        return to;
-    }
+    let start = at + 1;
+    let end = scan::find(line, start, line.len(), b' ');
+    let text = &line[start..end];
+    let to = bytes_end(text, kind, bytes, place(ends, 0, k));
+    let last = cells_end(text, kind, cells, place(ends, PLACES, k));
+    if filled(ends, k, to, last) { end } else { BAD }
+}
+
+// Notes how far the areas are filled behind field k. False where one is too small, or the field is not of its kind.
+fn filled(ends: &mut [usize; ENDS], k: usize, to: usize, last: usize) -> bool
+    requires { ⌜ k < 9 ⌝ }
+{
+    ends[k + 1] = to;
+    ends[PLACES + k + 1] = last;
+    to != BAD && last != BAD
+}
+
+fn bytes_end(text: &[u8], kind: u8, area: &mut [u8; BYTES], from: usize) -> usize {
     if kind == b'b' {
-        to.bytes = octets(field, bytes, from.bytes);
-        return to;
+        octets(text, area, from)
+    } else {
+        from
     }
-    to.cells = list(field, cells, from.cells);
-    to
 }
 
-// Bytes in hex.
-pub fn octets(field: &[u8], area: &mut [u8; BYTES], from: usize) -> usize {
-    if field.len() == 0 {
-        return BAD;
+fn cells_end(text: &[u8], kind: u8, area: &mut [u16; CELLS], from: usize) -> usize {
+    match kind {
+        b'n' => one(text, area, from),
+        b'l' => list(text, area, from),
+        _ => from,
     }
-    let mut to = from;
-    let mut i = 0;
-    while i < field.len() {
-        to = octet(digit(field, i), digit(field, i + 1), area, to);
-        i += 2;
-    }
-    to
 }
 
-// Puts the byte of two digits into the area.
-fn octet(high: u8, low: u8, area: &mut [u8; BYTES], to: usize) -> usize {
-    if 15 < high {
-        return BAD;
-    }
-    if 15 < low {
-        return BAD;
-    }
-    if BYTES <= to {
-        return BAD;
-    }
-    area[to] = high * 16 + low;
-    to + 1
+// Whether a field holds none.
+fn none(text: &[u8]) -> bool {
+    check::same(text, b"-")
 }
 
-fn list(field: &[u8], area: &mut [u16; CELLS], from: usize) -> usize {
+// Bytes in hex, or none.
+pub fn octets(text: &[u8], area: &mut [u8], from: usize) -> usize {
+    if none(text) {
+        return from;
+    }
+    if text.len() == 0 || area.len() < from {
+        return BAD;
+    }
+    let n = text.len() / 2;
+    if area.len() - from < text.len() - n {
+        return BAD;
+    }
+    if digits::decoded(text, &mut area[from..]) {
+        from + n
+    } else {
+        BAD
+    }
+}
+
+fn list(text: &[u8], area: &mut [u16; CELLS], from: usize) -> usize {
+    if none(text) {
+        return from;
+    }
     let mut to = from;
     let mut at = 0;
-    while at < field.len() {
-        let end = scan::find(field, at, field.len(), b',');
-        to = one(&field[at..end], area, to);
-        if end == field.len() {
+    while at < text.len() {
+        let end = scan::find(text, at, text.len(), b',');
+        to = one(&text[at..end], area, to);
+        if end == text.len() {
             return to;
         }
         at = end + 1;
@@ -151,63 +159,19 @@ fn one(word: &[u8], area: &mut [u16; CELLS], to: usize) -> usize {
     to + 1
 }
 
-// The number that a word is from its first byte to its last, or OVER.
-pub fn number_of(word: &[u8]) -> u32
-    ensures { λ r. ⌜ r ≤ 65536 ⌝ }
-{
-    if word.len() == 0 {
-        return OVER;
-    }
-    let mut value = 0;
-    let mut i = 0;
-    while i < word.len() {
-        value = longer(value, digit(word, i));
-        i += 1;
-    }
-    value
-}
-
-// A number with a digit behind it, or OVER.
-fn longer(value: u32, digit: u8) -> u32
-    requires { ⌜ value ≤ 65536 ⌝ }
-    ensures { λ r. ⌜ r ≤ 65536 ⌝ }
-{
-    if OVER <= value {
-        return OVER;
-    }
-    if 9 < digit {
-        return OVER;
-    }
-    let long = value * 10 + digit as u32;
-    if long < OVER { long } else { OVER }
-}
-
-// The digit that the byte at i stands for; 16 for any other byte, and past the end.
-fn digit(text: &[u8], i: usize) -> u8 {
-    if text.len() <= i {
-        return 16;
-    }
-    let b = text[i];
-    match b {
-        b'0'..=b'9' => b - 48,
-        b'a'..=b'f' => b - 87,
-        _ => 16,
-    }
-}
-
 // The bytes of field k.
 pub fn text<'a>(bytes: &'a [u8; BYTES], ends: &[usize; ENDS], k: usize) -> &'a [u8] {
-    parts::bytes(bytes, start(ends, k), end(ends, k))
+    parts::bytes(bytes, place(ends, 0, k), place(ends, 1, k))
 }
 
 // The numbers of field k, a list.
 pub fn column<'a>(cells: &'a [u16; CELLS], ends: &[usize; ENDS], k: usize) -> &'a [u16] {
-    parts::cells(cells, first(ends, k), last(ends, k))
+    parts::cells(cells, place(ends, PLACES, k), place(ends, PLACES + 1, k))
 }
 
 // Field k, a number, as it stands in its cell.
 pub fn cell(cells: &[u16; CELLS], ends: &[usize; ENDS], k: usize) -> u16 {
-    let at = first(ends, k);
+    let at = place(ends, PLACES, k);
     if at < CELLS { cells[at] } else { 0 }
 }
 
@@ -218,20 +182,9 @@ pub fn number(cells: &[u16; CELLS], ends: &[usize; ENDS], k: usize) -> usize
     cell(cells, ends, k) as usize
 }
 
-// Where field k starts and ends in the area of bytes.
-fn start(ends: &[usize; ENDS], k: usize) -> usize {
-    if k < FIELDS { ends[k] } else { 0 }
-}
-
-fn end(ends: &[usize; ENDS], k: usize) -> usize {
-    if k < FIELDS { ends[k + 1] } else { 0 }
-}
-
-// And in the area of cells.
-fn first(ends: &[usize; ENDS], k: usize) -> usize {
-    if k < FIELDS { ends[PLACES + k] } else { 0 }
-}
-
-fn last(ends: &[usize; ENDS], k: usize) -> usize {
-    if k < FIELDS { ends[PLACES + k + 1] } else { 0 }
+// What stands in `ends` at field k, counted from `first`.
+fn place(ends: &[usize; ENDS], first: usize, k: usize) -> usize
+    requires { ⌜ first ≤ 11 ⌝ }
+{
+    if k < FIELDS { ends[first + k] } else { 0 }
 }

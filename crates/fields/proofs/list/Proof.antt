@@ -6,11 +6,12 @@ use Rattle.fields.proofs.list.Statement.{statement}
 use Rattle.fields.proofs.list.Tie as tie
 
 abbrev Inv-loop : tie.InvT-loop
-Inv-loop field area₀ from to₀ at₀ area to at = at ≤ length field
+Inv-loop text area₀ from to₀ at₀ area to at = at ≤ length text
 
 abbrev μ-loop : tie.MeasureT-loop
-μ-loop field area₀ from to₀ at₀ area to at = length field - at
+μ-loop text area₀ from to₀ at₀ area to at = length text - at
 
 pub list-spec : {M : Type 1} → statement M
 list-spec =
-    tie.close (tie.spec Inv-loop μ-loop (λ c. search needs) (λ c κs. search needs) (λ c. search needs) (λ c. search needs) (λ c. search needs) (λ c κs. search needs) (λ c. search needs) (λ c. search needs) (λ c. search needs) (λ c. search needs) (λ c. search needs))
+    tie.close
+    (tie.spec Inv-loop μ-loop (λ c κs. search needs) (λ c. search needs) (λ c. search needs) (λ c κs. search needs) (λ c. search needs) (λ c. search needs) (λ c. search needs) (λ c κs. search needs) (λ c. search needs) (λ c. search needs) (λ c. search needs) (λ c. search needs) (λ c. search needs))

@@ -1,0 +1,3 @@
+-- What digits spell, and its laws.
+pub mod Digits
+pub mod DigitsLaws
