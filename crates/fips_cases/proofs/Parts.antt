@@ -10,8 +10,8 @@ use lib.ListN.{length, take, drop, length-take, length-append, drop-of-length-le
 use lib.Seq.{take-all, drop-drop}
 use Rattle.sha2.specs.Running.{Holds, Grows}
 use Rattle.sha2.specs.declared.digest.Digest.{Digest}
-use Rattle.fips_cases.specs.Digits.{isHex, bytesOf}
-use Rattle.fips_cases.proofs.Spelling.{hex-cut, bytes-cut, bytes-long}
+use Rattle.digits.specs.Digits.{isHex, bytesOf}
+use Rattle.digits.specs.DigitsLaws.{hex-cut, bytes-cut, bytes-long}
 
 -- a part is at most 2000 digits
 part-is : (l : List ℕ) (m : ℕ) → m ≡ min (length l) 2000 → (take m l ≡ take 2000 l) × (drop m l ≡ drop 2000 l)

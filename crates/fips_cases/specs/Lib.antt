@@ -1,3 +1,3 @@
 -- What the lines of a file of vectors say, and the Monte Carlo test.
-pub mod Digits
+pub mod Values
 pub mod Monte

@@ -1,16 +1,12 @@
 // The digests of messages, made in parts over a lent digest.
-use crate::digits;
-use crate::digits::Label;
+use crate::values::Label;
 use labels::lent;
 use sha2::digest::Digest;
-ghost use Prim.Native.Nat.{_+_, _^_, _≤_, _<_, min};
+ghost use Prim.Native.Nat.{min};
 ghost use mathlib.Core.Path.{_≡_};
-ghost use mathlib.Core.Bool.{true};
 ghost use mathlib.Core.List.{_++_};
-ghost use lib.ListN.{length};
 ghost use Rattle.sha2.specs.Sha256 as Sha256;
-ghost use Rattle.sha2.specs.Running.{Grows};
-ghost use Rattle.fips_cases.specs.Digits.{isHex, bytesOf, Hashes};
+ghost use Rattle.fips_cases.specs.Values.{Hashes};
 ghost use Rattle.fips_cases.specs.Monte.{monte};
 
 // The bytes of a part.
@@ -19,23 +15,17 @@ const PART: usize = 1000;
 // FIPS 180-4 defines SHA-256 for fewer bytes than this.
 const BYTES: usize = 2305843009213693952;
 
-// The digest of a published message of so many bits, if it is whole bytes and has so many.
-pub fn published(bits: usize, digits: &[u8]) -> Label {
-    let m = message(bits, digits);
-    let h = hashed(m);
-    let label = h.label;
-    Label {
-        is: h.is && bits % 8 == 0 && bits / 4 == m.len(),
-        label,
-    }
-}
-
-// For the empty message two digits are published.
-fn message(bits: usize, digits: &[u8]) -> &[u8] {
+// The digits of a published message of so many bits: for the empty one two are published.
+pub fn shown(bits: usize, digits: &[u8]) -> &[u8] {
     if bits == 0 && digits.len() == 2 {
         return &digits[..0];
     }
     digits
+}
+
+// Whether so many bits are whole bytes, and so many digits spell them.
+pub fn whole(bits: usize, digits: usize) -> bool {
+    bits % 8 == 0 && bits / 4 == digits
 }
 
 // The digest of the message that the digits spell, part by part.
@@ -46,38 +36,20 @@ pub fn hashed(digits: &[u8]) -> Label
     if BYTES <= digits.len() {
         return Label { is: false, label };
     }
+    let mut bytes = [0u8; PART];
     let mut d = Digest::new();
     let mut at = 0;
     while at < digits.len() {
         let to = at + size(digits.len() - at);
-        let t = extended(d, &digits[at..to]);
-        if !t.is {
+        if !digits::decoded(&digits[at..to], &mut bytes) {
             return Label { is: false, label };
         }
-        let next = t.digest;
-        d = next;
+        let n = (to - at) / 2;
+        d = lent::absorbed(d, &bytes[..n]);
         at = to;
     }
     let label = d.finish();
     Label { is: true, label }
-}
-
-// A digest, and whether the digits that were to be taken spell bytes.
-struct Taken {
-    is: bool,
-    digest: Digest,
-}
-
-// The digest after one more part.
-fn extended(d: Digest, digits: &[u8]) -> Taken
-    requires { ⌜ (length (now digits) ≤ 2000) × (d .len + length (now digits) < 2 ^ 61) ⌝ }
-    ensures { λ r. ⌜ (r .is ≡ isHex (now (digits .entry))) × (r .is ≡ true → Grows d (bytesOf (now (digits .entry))) (r .digest)) ⌝ }
-{
-    let mut bytes = [0u8; PART];
-    let is = digits::decoded(digits, &mut bytes);
-    let n = digits.len() / 2;
-    let digest = lent::absorbed(d, &bytes[..n]);
-    Taken { is, digest }
 }
 
 // The digits of the next part, of those that are left.

@@ -8,10 +8,10 @@ use denote.Ref.{now}
 use lib.ListN.{length, take, drop, length-take}
 use lib.Seq.{length-take-le}
 use Rattle.lists.specs.PartsLaws.{tail-part}
-use Rattle.fips_cases.specs.Digits.{Behind}
+use Rattle.fips_cases.specs.Values.{Behind}
 use borrow.Author.Needs.{needs}
-use Rattle.fips_cases.proofs.digits.value.Statement.{statement}
-use Rattle.fips_cases.proofs.digits.value.Tie as tie
+use Rattle.fips_cases.proofs.values.value.Statement.{statement}
+use Rattle.fips_cases.proofs.values.value.Tie as tie
 
 short : (word line : List ℕ) → length line < length word → Behind word line []
 short word line h = record { follows = λ e. absurd (omega (arith, ap length e, length-take (length word) line)); nothing = λ n. refl }

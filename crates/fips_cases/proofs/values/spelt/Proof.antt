@@ -6,10 +6,10 @@ use borrow.Author.Tests.{eq-eqb, ne-eqb}
 use denote.Ref.{now}
 use lib.ListN.{length, take}
 use lib.Seq.{take-all}
-use Rattle.fips_cases.specs.Digits.{isHex}
+use Rattle.digits.specs.Digits.{isHex}
 use borrow.Author.Needs.{needs}
-use Rattle.fips_cases.proofs.digits.spelt.Statement.{statement}
-use Rattle.fips_cases.proofs.digits.spelt.Tie as tie
+use Rattle.fips_cases.proofs.values.spelt.Statement.{statement}
+use Rattle.fips_cases.proofs.values.spelt.Tie as tie
 
 returns : tie.Need-returns
 returns c =
