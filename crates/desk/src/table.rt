@@ -1,8 +1,8 @@
 // What is told of a slip's table: all of it, or the value of a type.
 use desk_files::messages;
 use outcomes::Refusal;
+use row_lines::writing;
 use slips::header;
-use table_text::writing;
 use tables::limits::Slip;
 
 // No type is so large: in its place the whole table is told.

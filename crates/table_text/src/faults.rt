@@ -27,13 +27,10 @@ impl Fault {
 }
 
 pub fn told(text: &mut [u8; pages::BYTES], at: usize, fault: usize) -> usize {
-    pages::form(
+    said(
         text,
         at,
-        b"$\n",
-        [0, 0, 0],
-        words::line(
-            b"a row begins with inner, gone or pair
+        b"a row begins with inner, gone or pair
 no number from 0 to 65535
 no value, and - is the empty one
 an odd number of digits
@@ -43,9 +40,14 @@ more than one value
 a value longer than any slip
 more rows than a slip has
 ",
-            fault,
-        ),
+        fault,
     )
+}
+
+// A line of a text.
+fn said(text: &mut [u8; pages::BYTES], at: usize, lines: &[u8], number: usize) -> usize {
+    let to = pages::word(text, at, words::line(lines, number));
+    pages::byte(text, to, b'\n')
 }
 
 // Why the digits of a value stand for no bytes.

@@ -2,4 +2,3 @@
 // text is shown behind ` # ` as well, and what stands there is passed over when the text is read.
 pub mod faults;
 pub mod reading;
-pub mod writing;

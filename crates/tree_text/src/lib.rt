@@ -1,13 +1,11 @@
-// The tree of a slip as people draw it: from the root down, a line a node, indented by its depth.
-mod cutting;
-mod drawing;
-mod places;
-
+// The tree of a slip as people draw it.
 use outcomes::Refusal;
+use row_lines::drawing;
 use slips::answer;
 use slips::answer::Answer;
 use slips::header;
 use slips::open;
+use slips::open::Opened;
 use tables::areas::Full;
 use tables::limits::Slip;
 ghost use mathlib.Core.Path.{_≡_};
@@ -47,16 +45,16 @@ fn opened(s: &[u8], n: usize) -> Answer
         &mut values,
         &mut labels,
     );
-    let a = o.answer;
-    let n = shown(a.number, o.rows);
+    let n = shown(o);
     drawing::draw(n, &types, &counts, &lengths, &values, &labels);
     o.answer
 }
 
 // How many rows are drawn: none of a slip that was refused.
-fn shown(number: usize, rows: usize) -> usize {
-    if number != Refusal::ACCEPTED {
+fn shown(o: Opened) -> usize {
+    let a = o.answer;
+    if a.number != Refusal::ACCEPTED {
         return 0;
     }
-    rows
+    o.rows
 }

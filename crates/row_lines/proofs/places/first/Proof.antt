@@ -1,8 +1,8 @@
--- `tree_text::places::first` is safe and ends.
+-- `row_lines::places::first` is safe and ends.
 use Prim.Native.Nat.{_≤_, _+_, _*_, _-_}
 use borrow.Author.Needs.{needs}
-use Rattle.tree_text.proofs.places.first.Statement.{statement}
-use Rattle.tree_text.proofs.places.first.Tie as tie
+use Rattle.row_lines.proofs.places.first.Statement.{statement}
+use Rattle.row_lines.proofs.places.first.Tie as tie
 
 abbrev Inv-loop : tie.InvT-loop
 Inv-loop counts row at₀ waiting₀ at waiting = (at ≤ row) × (waiting ≤ 65535 * (row + 1 - at))

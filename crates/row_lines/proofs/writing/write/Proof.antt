@@ -1,9 +1,9 @@
--- `table_text::writing::write` is safe and ends.
+-- `row_lines::writing::write` is safe and ends.
 use Prim.Native.Nat.{_-_}
 use lib.ListN.{length}
 use borrow.Author.Needs.{needs}
-use Rattle.table_text.proofs.writing.write.Statement.{statement}
-use Rattle.table_text.proofs.writing.write.Tie as tie
+use Rattle.row_lines.proofs.writing.write.Statement.{statement}
+use Rattle.row_lines.proofs.writing.write.Tie as tie
 
 abbrev Inv-loop : tie.InvT-loop
 Inv-loop text₀ types counts lengths values to₀ start₀ row₀ text to start row = Unit {0}

@@ -1,9 +1,9 @@
--- `tree_text::cutting::front` is safe and ends.
+-- `row_lines::cutting::front` is safe and ends.
 use Prim.Native.Nat.{_-_}
 use lib.ListN.{length}
 use borrow.Author.Needs.{needs}
-use Rattle.tree_text.proofs.cutting.front.Statement.{statement}
-use Rattle.tree_text.proofs.cutting.front.Tie as tie
+use Rattle.row_lines.proofs.cutting.front.Statement.{statement}
+use Rattle.row_lines.proofs.cutting.front.Tie as tie
 
 abbrev Inv-loop : tie.InvT-loop
 Inv-loop text most left₀ i₀ left i = Unit {0}

@@ -1,5 +1,5 @@
 // Where the rows of a tree stand when it is drawn. The rows are in post order, so a subtree is a run of rows that
-// ends with its root, and the nodes above a row are those behind it whose run begins no later.
+// ends with its root.
 use tables::limits::Slip;
 ghost use Prim.Native.Nat.{_≤_, _<_};
 ghost use Rattle.trees.specs.Rules.{maxNodes};
@@ -21,59 +21,40 @@ fn first(counts: &[u16], row: usize) -> usize
     at
 }
 
-// The first row of the subtree of each of n rows.
-pub fn firsts(counts: &[u16], n: usize, begins: &mut [u16; Slip::MAX_NODES])
-    requires { ⌜ n ≤ maxNodes ⌝ }
-{
-    let mut row = 0;
-    while row < n {
-        begins[row] = first(counts, row) as u16;
-        row += 1;
-    }
-}
-
-// How many nodes are above a row.
-pub fn depth(begins: &[u16; Slip::MAX_NODES], n: usize, row: usize) -> usize
-    requires { ⌜ n ≤ maxNodes ⌝ }
+// How many nodes are above a row. Behind it the subtrees that wait for a parent are counted, its own and those that
+// came since: the first row with as many children or more is the node above, which then waits alone.
+pub fn depth(counts: &[u16], n: usize, row: usize) -> usize
+    requires { ⌜ (n ≤ maxNodes) × (row < 65536) ⌝ }
     ensures { λ r. ⌜ r ≤ n ⌝ }
 {
     let mut above = 0;
-    let mut i = 0;
+    let mut waiting = 1;
+    let mut i = row + 1;
     while i < n {
-        above += spans(wide(begins[i]), i, row);
+        let children = parts::cell(counts, i);
         i += 1;
+        if children < waiting {
+            waiting = waiting - children + 1;
+            continue;
+        }
+        above += 1;
+        waiting = 1;
     }
     above
 }
 
-// 1 where a run from one row to another has the row before its last, else 0.
-fn spans(begin: usize, end: usize, row: usize) -> usize
-    ensures { λ r. ⌜ r ≤ 1 ⌝ }
-{
-    if end <= row {
-        return 0;
-    }
-    if begin <= row { 1 } else { 0 }
-}
-
 // The rows in the order of their lines: before a row's line stand those of the nodes above it and of the rows before
 // its subtree's first.
-pub fn order(begins: &[u16; Slip::MAX_NODES], n: usize, rows: &mut [u16; Slip::MAX_NODES])
+pub fn order(counts: &[u16], n: usize, rows: &mut [u16; Slip::MAX_NODES])
     requires { ⌜ n ≤ maxNodes ⌝ }
 {
     let mut row = 0;
     while row < n {
-        let line = wide(begins[row]) + depth(begins, n, row);
+        let line = first(counts, row) + depth(counts, n, row);
         if Slip::MAX_NODES <= line {
             return;
         }
         rows[line] = row as u16;
         row += 1;
     }
-}
-
-pub fn wide(cell: u16) -> usize
-    ensures { λ r. ⌜ r < 65536 ⌝ }
-{
-    cell as usize
 }

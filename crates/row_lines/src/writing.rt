@@ -1,4 +1,5 @@
-// A table's rows put on a page.
+// A table's rows put on a page as text: what `table_text` says of a line, and reads.
+use parts::words;
 use tables::limits::Slip;
 
 // Answers how many bytes stand on the page.
@@ -31,19 +32,39 @@ fn line(
     value: &[u8],
 ) -> usize {
     if 0 < count {
-        return pages::numbered(text, from, b"inner @\n", [count, 0, 0]);
+        return put(text, from, 0, count, value);
     }
-    if kind == 0 {
-        return pages::form(text, from, b"gone %\n", [0, 0, 0], value);
-    }
-    pair(text, from, kind, value)
+    put(text, from, shape(kind, value), kind, value)
 }
 
 pub fn pair(text: &mut [u8; pages::BYTES], from: usize, kind: usize, value: &[u8]) -> usize {
-    if legible(kind, value) {
-        return pages::form(text, from, b"pair @ % # $\n", [kind, 0, 0], value);
+    put(text, from, paired(kind, value), kind, value)
+}
+
+// A row by the number of its pattern.
+fn put(
+    text: &mut [u8; pages::BYTES],
+    from: usize,
+    shape: usize,
+    number: usize,
+    value: &[u8],
+) -> usize {
+    let pattern = words::line(b"inner @\ngone %\npair @ %\npair @ % # $\n", shape);
+    let to = pages::form(text, from, pattern, [number, 0, 0], value);
+    pages::byte(text, to, b'\n')
+}
+
+// The pattern of a row without children.
+fn shape(kind: usize, value: &[u8]) -> usize {
+    if kind == 0 {
+        return 1;
     }
-    pages::form(text, from, b"pair @ %\n", [kind, 0, 0], value)
+    paired(kind, value)
+}
+
+// The pattern of a pair.
+fn paired(kind: usize, value: &[u8]) -> usize {
+    if legible(kind, value) { 3 } else { 2 }
 }
 
 // Whether a value is shown as text as well: one of a type of text, and not empty.
