@@ -48,13 +48,8 @@ fn opened(text: &mut [u8; pages::BYTES], from: usize, s: &[u8], n: usize) -> usi
 
 fn heading(text: &mut [u8; pages::BYTES], from: usize, nodes: usize, a: Answer) -> usize {
     let label = a.label;
-    let at = pages::numbered(
-        text,
-        from,
-        b"slip @ @ @\n",
-        [Slip::EDITION, nodes, a.blocks],
-    );
-    pages::form(text, at, b"root %\n", [0, 0, 0], &label)
+    let numbers = [Slip::EDITION, nodes, a.blocks];
+    pages::form(text, from, b"slip @ @ @\nroot %\n", numbers, &label)
 }
 
 // The pairs of type 2 or above, row after row.
