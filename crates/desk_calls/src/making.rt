@@ -2,6 +2,7 @@
 use crate::answer;
 use crate::call::Call;
 use crate::room;
+use slips::answer as answers;
 use slips::answer::Answer;
 
 pub fn made(
@@ -35,21 +36,21 @@ fn told(
     text: &mut [u8; pages::BYTES],
     at: usize,
 ) -> usize {
-    if call == Call::COMPOSE {
-        return compose(fields::text(bytes, ends, 0), out, text, at);
-    }
     let a = answered(call, cells, bytes, ends, out);
-    let to = answer::head(text, at, a);
-    answer::bytes(text, to, out)
+    let to = begun(call, text, at, a);
+    answer::line(text, to, out)
 }
 
-// compose TITLE ROOM: the answer has number, place and length, and the buffer
-fn compose(title: &[u8], out: &mut [u8], text: &mut [u8; pages::BYTES], at: usize) -> usize {
-    let a = titles::compose(title, out);
-    pages::form(text, at, b"@ @ @ %\n", [a.number, a.place, a.length], out)
+// What stands before the buffer: of a title number, place and length.
+fn begun(call: usize, text: &mut [u8; pages::BYTES], from: usize, a: Answer) -> usize {
+    if call == Call::COMPOSE {
+        return answer::numbers(text, from, a.number, a.place, a.length);
+    }
+    let at = answer::head(text, from, a);
+    pages::byte(text, at, b' ')
 }
 
-// prune SLIP LIST ROOM, join SLIP SLIP ROOM, and pack
+// prune SLIP LIST ROOM, join SLIP SLIP ROOM, compose TITLE ROOM, and pack
 fn answered(
     call: usize,
     cells: &[u16; fields::CELLS],
@@ -57,19 +58,20 @@ fn answered(
     ends: &[usize; fields::ENDS],
     out: &mut [u8],
 ) -> Answer {
+    let first = fields::text(bytes, ends, 0);
     match call {
         Call::PACK => pack(cells, bytes, ends, out),
-        Call::PRUNE => prune::prune(
-            fields::text(bytes, ends, 0),
-            fields::column(cells, ends, 1),
-            out,
-        ),
-        _ => join::join(
-            fields::text(bytes, ends, 0),
-            fields::text(bytes, ends, 1),
-            out,
-        ),
+        Call::PRUNE => prune::prune(first, fields::column(cells, ends, 1), out),
+        Call::COMPOSE => compose(first, out),
+        _ => join::join(first, fields::text(bytes, ends, 1), out),
     }
+}
+
+fn compose(title: &[u8], out: &mut [u8]) -> Answer {
+    let t = titles::compose(title, out);
+    let mut a = answers::refused(t.number, t.place);
+    a.length = t.length;
+    a
 }
 
 // pack TYPES COUNTS LENGTHS VALUES ROOM

@@ -1,4 +1,5 @@
 // What the program `show` prints.
+use crate::answer;
 
 // show SLIP: the answer is the text, as bytes
 pub fn show(
@@ -9,6 +10,5 @@ pub fn show(
 ) -> usize {
     let mut shown = [0u8; pages::BYTES];
     let n = show_text::slip(&mut shown, 0, fields::text(bytes, ends, 0));
-    let to = pages::hex(text, at, pages::front(&shown, n));
-    pages::byte(text, to, b'\n')
+    answer::line(text, at, pages::front(&shown, n))
 }
