@@ -1,6 +1,7 @@
 // desk check: a line a file.
 use desk_files::files;
 use desk_files::messages;
+use desk_files::messages::Said;
 use desk_files::refusals;
 use outcomes::Refusal;
 use std::num;
@@ -24,12 +25,10 @@ pub fn check(count: usize) {
 }
 
 fn ended(text: &[u8; pages::BYTES], to: usize, refused: usize, files: usize) {
-    if pages::flush(text, to) == pages::BROKEN {
-        messages::cannot_write();
-        return;
-    }
-    if 0 < refused {
-        messages::said(b"desk: @ of @ files refused\n", [refused, files, 0], 0);
+    if messages::close(text, to) {
+        if 0 < refused {
+            messages::say(Said::SOME_REFUSED, [refused, files, 0], 0);
+        }
     }
 }
 
@@ -39,20 +38,25 @@ fn file(text: &mut [u8; pages::BYTES], told: Told, i: usize) -> Told {
     if n == files::UNREAD {
         return told;
     }
-    checked(text, told, i, files::front(&space, n))
+    checked(text, told.to, told.refused, i, files::front(&space, n))
 }
 
-fn checked(text: &mut [u8; pages::BYTES], told: Told, i: usize, slip: &[u8]) -> Told {
+fn checked(
+    text: &mut [u8; pages::BYTES],
+    from: usize,
+    refused: usize,
+    i: usize,
+    slip: &[u8],
+) -> Told {
     let a = slips::check::check(slip);
     if a.number == Refusal::ACCEPTED {
         let label = a.label;
-        return Told {
-            to: refusals::accepted(text, told.to, i, a.length, a.blocks, &label),
-            refused: told.refused,
-        };
+        let to = refusals::accepted(text, from, i, a.length, a.blocks, &label);
+        return Told { to, refused };
     }
+    let to = refusals::refused(text, from, i, a.number, a.place);
     Told {
-        to: refusals::refused(text, told.to, i, a.number, a.place),
-        refused: num::wrapping_add_usize(told.refused, 1),
+        to,
+        refused: num::wrapping_add_usize(refused, 1),
     }
 }

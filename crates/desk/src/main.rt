@@ -13,36 +13,33 @@ use desk_files::messages;
 
 fn main() {
     let count = os::arg_count();
+    run(asked(count), count);
+}
+
+// The command that the first word names.
+fn asked(count: usize) -> usize {
     if count < 2 {
-        messages::usage(Command::NONE);
-        return;
+        return Command::MISSING;
     }
     let mut space = io::buffer();
     let n = os::arg(1, &mut space);
-    run(command::named(&space[..n]), count);
+    command::named(&space[..n])
 }
 
 fn run(command: usize, count: usize) {
     if !command::fits(command, count) {
-        messages::usage(command);
+        messages::say(command, [0, 0, 0], 1);
         return;
     }
     match command {
         Command::CHECK => checking::check(count),
-        Command::TREE..=Command::PACK | Command::JOIN => forms::of_file(command),
+        Command::TREE..=Command::PACK | Command::JOIN => {
+            forms::of_file(command, table::ALL, 2);
+        }
         Command::PRUNE => making::prune(count),
         Command::FIND => finding::find(count),
         Command::CALLS => session::run(),
         Command::VERSION => messages::version(),
-        Command::HELP..=Command::LAST_HELP => messages::help(),
-        _ => no_command(),
+        _ => messages::help(),
     }
-}
-
-fn no_command() {
-    messages::said(
-        b"desk: usage: no command $; desk help lists them\n",
-        [0, 0, 0],
-        1,
-    );
 }

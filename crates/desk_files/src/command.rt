@@ -21,14 +21,13 @@ impl Command {
 
     pub const CALLS: usize = 7;
 
-    // Behind the commands' own usage lines stands the program's.
-    pub const NONE: usize = 8;
-
+    // Behind it stand the words for help.
     pub const VERSION: usize = 8;
 
-    pub const HELP: usize = 9;
+    // A word that names none, and no word at all.
+    pub const NONE: usize = 12;
 
-    pub const LAST_HELP: usize = 11;
+    pub const MISSING: usize = 13;
 }
 
 pub fn named(word: &[u8]) -> usize {
@@ -38,7 +37,7 @@ pub fn named(word: &[u8]) -> usize {
     )
 }
 
-// Whether a command takes so many arguments, the program's name and the command's word among them.
+// Whether there is such a command and it takes so many arguments, the program's name and the command's word among them.
 pub fn fits(command: usize, count: usize) -> bool {
     match command {
         Command::CHECK => 3 <= count,
@@ -46,6 +45,6 @@ pub fn fits(command: usize, count: usize) -> bool {
         Command::PRUNE | Command::FIND => 4 <= count,
         Command::JOIN => count == 4,
         Command::CALLS => count == 2,
-        _ => true,
+        _ => command < Command::NONE,
     }
 }

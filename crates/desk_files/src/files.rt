@@ -1,5 +1,6 @@
 // A file that an argument names.
 use crate::messages;
+use crate::messages::Said;
 use libc::STDIN_FILENO;
 use table_text::reading::BYTES;
 use text_lines::reading;
@@ -14,32 +15,22 @@ pub const UNREAD: usize = usize::MAX;
 // Reads the file that argument i names from its start as far as there is room, and answers how many bytes that is;
 // `-` is standard input.
 pub fn read(i: usize, space: &mut [u8; ROOM]) -> usize {
-    let n = got(i, space);
+    let n = got(opened(i), space);
     if n == UNREAD {
-        messages::said(b"desk: cannot read $\n", [0, 0, 0], i);
+        messages::say(Said::CANNOT_READ, [0, 0, 0], i);
     }
     n
 }
 
-fn got(i: usize, space: &mut [u8; ROOM]) -> usize {
-    let mut name = io::buffer();
-    let n = os::arg(i, &mut name);
-    let fd = opened(&name[..n]);
+fn got(fd: i32, space: &mut [u8; ROOM]) -> usize {
     if fd < 0 {
         return UNREAD;
     }
-    let m = taken(fd, space);
+    let n = taken(fd, space);
     if fd != STDIN_FILENO {
         libc::close(fd);
     }
-    m
-}
-
-fn opened(name: &[u8]) -> i32 {
-    if check::same(name, b"-") {
-        return STDIN_FILENO;
-    }
-    os::open_read(name)
+    n
 }
 
 fn taken(fd: i32, space: &mut [u8; ROOM]) -> usize {
@@ -48,6 +39,19 @@ fn taken(fd: i32, space: &mut [u8; ROOM]) -> usize {
         Got::Bytes(n) => n,
         Got::Failed => UNREAD,
     }
+}
+
+fn opened(i: usize) -> i32 {
+    let mut name = io::buffer();
+    let n = os::arg(i, &mut name);
+    named(&name[..n])
+}
+
+fn named(name: &[u8]) -> i32 {
+    if check::same(name, b"-") {
+        return STDIN_FILENO;
+    }
+    os::open_read(name)
 }
 
 // The first n bytes of what was read.

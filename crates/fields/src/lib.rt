@@ -147,7 +147,7 @@ fn list(text: &[u8], area: &mut [u16; CELLS], from: usize) -> usize {
 }
 
 // Puts the number that a word is into the area.
-fn one(word: &[u8], area: &mut [u16; CELLS], to: usize) -> usize {
+pub fn one(word: &[u8], area: &mut [u16; CELLS], to: usize) -> usize {
     let value = number_of(word);
     if OVER <= value {
         return BAD;
