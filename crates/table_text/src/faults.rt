@@ -1,7 +1,6 @@
 // Why a line is no row.
-use parts::words;
 
-// The faults, each with the number of the line that has its words.
+// The faults. Their words stand in `desk_files`, a line each in this order.
 pub struct Fault {}
 
 impl Fault {
@@ -24,30 +23,6 @@ impl Fault {
     pub const ROWS: usize = 8;
 
     pub const NONE: usize = 9;
-}
-
-pub fn told(text: &mut [u8; pages::BYTES], at: usize, fault: usize) -> usize {
-    said(
-        text,
-        at,
-        b"a row begins with inner, gone or pair
-no number from 0 to 65535
-no value, and - is the empty one
-an odd number of digits
-upper-case digits
-a sign that is no hex digit
-more than one value
-a value longer than any slip
-more rows than a slip has
-",
-        fault,
-    )
-}
-
-// A line of a text.
-fn said(text: &mut [u8; pages::BYTES], at: usize, lines: &[u8], number: usize) -> usize {
-    let to = pages::word(text, at, words::line(lines, number));
-    pages::byte(text, to, b'\n')
 }
 
 // Why the digits of a value stand for no bytes.
