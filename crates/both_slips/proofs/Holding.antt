@@ -14,7 +14,7 @@ use Rattle.tables.specs.Records.{Holds}
 use Rattle.tables.specs.Tables.{entries, sum, FormedIn}
 use Rattle.sha2.specs.Sha256 as Sha256
 use Rattle.join_rows.specs.Plans.{TwoTables}
-use Rattle.slips.specs.declared.answer.Answer.{Answer}
+use Rattle.answers.specs.declared.Answer.{Answer}
 use Rattle.slips.specs.declared.open.Opened.{Opened}
 use Rattle.slips.specs.Opening.{OpenAsks, OpenGives}
 use Rattle.slips.specs.SlipTree.{slipTree}

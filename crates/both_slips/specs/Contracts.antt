@@ -16,7 +16,7 @@ use Rattle.slips.specs.Opening.{Counted, OpenGives}
 use Rattle.slips.specs.SlipTree.{slipTree}
 use Rattle.slips.specs.HoldingLaws.{Rooms}
 use Rattle.both_slips.specs.declared.Pair.{Pair}
-use Rattle.both_slips.specs.Both.{bothOf}
+use Rattle.answers.specs.Both.{bothOf}
 
 -- a slip of n entries whose header is taken, of at most `bytes` bytes and `nodes` nodes
 pub record Headed (s : List ℕ) (n bytes nodes : ℕ) : Type 0 where

@@ -1,7 +1,5 @@
 // Two slips held in one set of columns, the second's table behind the first's.
-pub mod answers;
-
-use slips::answer::Answer;
+use answers::Answer;
 use slips::open;
 use slips::open::Opened;
 use tables::limits::Slip;

@@ -1,5 +1,5 @@
 // The calls that a task may name.
-use slips::answer::Answer;
+use answers::Answer;
 
 const CHECK: u16 = 0;
 

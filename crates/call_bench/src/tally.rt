@@ -1,6 +1,6 @@
 // What the calls answered and wrote: how many were accepted and refused, and two sums over every number and byte. The
 // second sums the first as it grows, so that the order counts too.
-use slips::answer::Answer;
+use answers::Answer;
 use std::num;
 
 pub struct Tally {

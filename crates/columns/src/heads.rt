@@ -7,23 +7,6 @@ ghost use lib.ListN.{length};
 ghost use Rattle.lists.specs.Lists as Lists;
 ghost use Rattle.columns.specs.Columns.{textAt, headAt, headsBack, sameHead, headsAgree, noneLeft, LabelAsks, Walkable};
 
-// Whether two texts are equal.
-pub fn same(a: &[u8], b: &[u8]) -> bool
-    ensures { λ r. ⌜ r ≡ Lists.same (now (a .entry)) (now (b .entry)) ⌝ }
-{
-    if a.len() != b.len() {
-        return false;
-    }
-    let mut i = 0;
-    while i < a.len() {
-        if a[i] != b[i] {
-            return false;
-        }
-        i += 1;
-    }
-    true
-}
-
 // The label of a row.
 fn label<'a>(
     counts: &[u16],
@@ -63,7 +46,7 @@ fn same_head<'a>(
     if types[x] != types[y] {
         return false;
     }
-    same(
+    check::same(
         label(counts, lengths, values, labels, offsets, x),
         label(counts, lengths, values, labels, offsets, y),
     )

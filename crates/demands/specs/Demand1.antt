@@ -30,8 +30,8 @@ use Rattle.codec.specs.Reading.{Read, short, got, Reading, readOne, readAll}
 use Rattle.codec.specs.Reading as Reading
 use Rattle.engine.specs.Engine.{oneTree, rootLabel}
 use Rattle.tables.specs.Cells.{countCell}
-use Rattle.slips.specs.declared.answer.Answer.{Answer}
-use Rattle.slips.specs.Answers.{refused, taken}
+use Rattle.answers.specs.declared.Answer.{Answer}
+use Rattle.answers.specs.Answers.{refused, taken}
 use Rattle.tables.specs.Limits.{edition, headerBits}
 use Rattle.slips.specs.Check.{editionOf, countOf, readingOf, paddingFits, settledTests, settled, headerTests, headerOf, headed, bodyOf, checkOf}
 use Rattle.outcomes.specs.Outcome.{over}
@@ -43,7 +43,7 @@ use Rattle.unpack.specs.Unpack.{tableOf, unpackOf}
 use Rattle.send.specs.Sent.{sentTests, sent, sentTree}
 use Rattle.prune_tables.specs.Pruned.{listTests, prunedOf}
 use Rattle.prune.specs.Prune.{slipTests, pruneOf}
-use Rattle.both_slips.specs.Both.{sided, bothTests}
+use Rattle.answers.specs.Both.{sided, bothTests}
 use Rattle.join_tables.specs.Joined.{tooLarge, largeTests, joinedOf}
 use Rattle.join.specs.Join.{leaving, joinOf}
 use Rattle.demands.specs.InOrder.{Case, on, among, InOrder}

@@ -25,7 +25,7 @@ use Rattle.unicode.specs.Repertoire.{allPlain, allIn}
 use Rattle.unicode.specs.Nfc.{nfc}
 use Rattle.titles.specs.Compose.{composedText, acceptedWith, composeOf}
 use Rattle.titles.specs.TitleTheorems.{title-nfc, accepted-nfc, equal-nfc}
-use Rattle.slips.specs.Answers.{taken}
+use Rattle.answers.specs.Answers.{taken}
 use Rattle.slips.specs.Check.{countOf, checkOf}
 use Rattle.outcomes.specs.Outcome.{over}
 use Rattle.pack.specs.Pack.{answerOf, packOf}

@@ -21,7 +21,7 @@ use Rattle.trees.specs.Rows.{rows, number}
 use Rattle.codec.specs.Writing.{slipOf}
 use Rattle.sha2.specs.Sha256 as Sha256
 use Rattle.titles.specs.Compose.{composedText}
-use Rattle.slips.specs.declared.answer.Answer.{Answer}
+use Rattle.answers.specs.declared.Answer.{Answer}
 use Rattle.slips.specs.SlipTrees.{check-complete}
 use Rattle.slips.specs.SlipTree.{slipTree}
 use Rattle.slips.specs.SlipTreeLaws.{slip-tree}

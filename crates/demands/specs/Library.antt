@@ -16,7 +16,7 @@ use Rattle.outcomes.specs.Refusals.{accepted, noRoom, joinTooLarge, clashing}
 use Rattle.codec.specs.Writing.{slipOf}
 use Rattle.slips.specs.Check.{checkOf}
 use Rattle.outcomes.specs.Outcome.{Output}
-use Rattle.slips.specs.declared.answer.Answer.{Answer}
+use Rattle.answers.specs.declared.Answer.{Answer}
 use Rattle.slips.specs.SlipTree.{slipTree}
 use Rattle.join_tables.specs.Joined.{clashed}
 use Rattle.join.specs.Join.{joinOf}

@@ -27,8 +27,8 @@ use Rattle.outcomes.specs.Refusals.{accepted, noRoom, rootsDiffer, joinTooLarge
 use Rattle.codec.specs.Writing.{entryBits, allBits, slipOf}
 use Rattle.codec.specs.MeasureLaws.{dangling-long, slip-bits-long, slip-bytes-long}
 use Rattle.codec.specs.SlipLaws.{below-slipOf}
-use Rattle.slips.specs.declared.answer.Answer.{Answer}
-use Rattle.slips.specs.Answers.{refused, taken}
+use Rattle.answers.specs.declared.Answer.{Answer}
+use Rattle.answers.specs.Answers.{refused, taken}
 use Rattle.slips.specs.Check.{checkOf}
 use Rattle.outcomes.specs.Outcome.{over, Output, still}
 use Rattle.slips.specs.SlipTrees.{SlipOf, check-complete, check-unique}
@@ -36,7 +36,7 @@ use Rattle.slips.specs.SlipTree.{slipTree}
 use Rattle.slips.specs.SlipTreeLaws.{slip-tree}
 use Rattle.send.specs.Sent.{sent}
 use Rattle.slips.specs.ByteTrees.{tree-slip, accepted-slip}
-use Rattle.both_slips.specs.Both.{sided}
+use Rattle.answers.specs.Both.{sided}
 use Rattle.join_tables.specs.Joined.{clashed, tooLarge}
 use Rattle.join.specs.JoinTheorems.{Goes, first, second, differ, clashes, large, joins, join-goes}
 use Rattle.demands.specs.Library.{Arrival, start, Reached, misfits, keeps, outcome, after, kept, ever, Ours}

@@ -12,7 +12,7 @@ use Rattle.codec.specs.Writing.{leafBits, entryBits, allBits, slipBits, slipOf}
 use Rattle.outcomes.specs.Outcome.{still}
 use Rattle.titles.specs.Compose.{composeOf, refusal, acceptedWith}
 use Rattle.titles.specs.Cases.{loose, whole, loose-composes, whole-itself, empty-empty, mark-alone, second-mark, cut-short, control}
-use Rattle.slips.specs.Answers.{refused, taken}
+use Rattle.answers.specs.Answers.{refused, taken}
 use Rattle.slips.specs.Check.{paddingFits, settled, headerOf, bodyOf, checkOf}
 use Rattle.slips.specs.Cases.{bare, bare-accepted, bare-padding-set, bare-cut, no-nodes, other-edition, no-bytes}
 use Rattle.join_tables.specs.Joined.{clashed, joinedOf}

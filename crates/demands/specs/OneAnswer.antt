@@ -11,7 +11,7 @@ use Rattle.outcomes.specs.OutcomeLaws.{leaves-one}
 use Rattle.titles.specs.Compose.{composeOf, composedText}
 use Rattle.titles.specs.declared.composed.Composed.{Composed}
 use Rattle.lookup.specs.Lookup.{lookup, Handed}
-use Rattle.slips.specs.declared.answer.Answer.{Answer}
+use Rattle.answers.specs.declared.Answer.{Answer}
 use Rattle.slips.specs.Check.{checkOf}
 use Rattle.pack.specs.Pack.{packOf}
 use Rattle.unpack.specs.Unpack.{unpackOf}

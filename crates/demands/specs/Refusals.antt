@@ -7,7 +7,7 @@ use mathlib.Core.Path.{_≡_}
 use lib.ListN.{length, getD}
 use Rattle.lists.specs.Lists.{all}
 use Rattle.trees.specs.Nodes.{Node, inner, typeOf, height, heads, label}
-use Rattle.trees.specs.Rules.{maxHeight, maxBytes, salted, textFits}
+use Rattle.trees.specs.Rules.{maxHeight, maxBytes, salted, textFits, noLabel}
 use Rattle.trees.specs.Places.{Place}
 use Rattle.trees.specs.Join.{ok, clash, join}
 use Rattle.trees.specs.Rows.{Entry, node, tip, rows, number, kids, runOf, grow, grown}
@@ -15,10 +15,9 @@ use Rattle.tables.specs.Limits.{edition, headerBits}
 use Rattle.outcomes.specs.Refusals.{accepted, tooLong, cutShort, otherEdition, noNodes, notOneTree, badPadding, noRoom, badList, rootsDiffer, joinTooLarge, badTable, childrenMissing, tooHigh, saltBroken, notComposed, clashing}
 use Rattle.tables.specs.Tables.{Table, rowFits, columnsFit, sum}
 use Rattle.codec.specs.Writing.{slipOf}
-use Rattle.engine.specs.Engine.{noLabel}
 use Rattle.tables.specs.Cells.{countCell}
 use Rattle.tables.specs.PruningList.{pruned}
-use Rattle.slips.specs.declared.answer.Answer.{Answer}
+use Rattle.answers.specs.declared.Answer.{Answer}
 use Rattle.slips.specs.Check.{editionOf, countOf, readingOf, paddingFits}
 use Rattle.outcomes.specs.Outcome.{Outcome}
 use Rattle.slips.specs.SlipTree.{slipTree}

@@ -1,5 +1,5 @@
 // The answer to a request: a line of fields with single spaces.
-use slips::answer::Answer;
+use answers::Answer;
 
 pub fn bad(text: &mut [u8; pages::BYTES], at: usize) -> usize {
     pages::word(text, at, b"bad request\n")

@@ -1,7 +1,7 @@
 // The calls that read a slip: check and unpack.
 use crate::answer;
 use crate::room;
-use slips::answer::Answer;
+use answers::Answer;
 
 // check SLIP
 pub fn check(

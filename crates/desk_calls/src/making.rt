@@ -2,8 +2,7 @@
 use crate::answer;
 use crate::call::Call;
 use crate::room;
-use slips::answer as answers;
-use slips::answer::Answer;
+use answers::Answer;
 
 pub fn made(
     call: usize,

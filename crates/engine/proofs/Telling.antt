@@ -9,9 +9,9 @@ use lib.ListN.{length, take, drop, getD}
 use lib.Seq.{getD-take}
 use borrow.Author.Tests.{ne-eqb}
 use Rattle.trees.specs.Nodes.{headBytes}
-use Rattle.trees.specs.Rules.{labelBytes}
+use Rattle.trees.specs.Rules.{labelBytes, noLabel}
 use Rattle.trees.specs.Rows.{Tag, left}
-use Rattle.engine.specs.Engine.{told, noLabel, oneTree}
+use Rattle.engine.specs.Engine.{told, oneTree}
 use Rattle.faults.specs.Waiting.{kindOf}
 use Rattle.stack.specs.Areas.{pieces}
 use Rattle.engine.specs.declared.judge.Judged.{Judged}

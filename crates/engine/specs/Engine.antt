@@ -4,14 +4,10 @@ use mathlib.Core.Bool.{Bool, false, cond}
 use mathlib.Core.List.{List, [], _∷_}
 use mathlib.Core.Path.{_≡_}
 use lib.Dec.{eqb}
-use lib.ListN.{length, take, drop, getD, replicate}
-use Rattle.trees.specs.Rules.{labelBytes}
+use lib.ListN.{length, take, drop, getD}
+use Rattle.trees.specs.Rules.{labelBytes, noLabel}
 use Rattle.trees.specs.Rows.{Entry, Tag, Step, fault, next, Verdict, faulty, left, stepOf}
 use Rattle.engine.specs.declared.judge.Judged.{Judged}
-
--- "length, blocks and label all zero"
-abbrev pub noLabel : List ℕ
-noLabel = replicate labelBytes 0
 
 -- one tree waits, "with a root of type 0"
 abbrev pub oneTree : List Tag → Bool

@@ -12,8 +12,8 @@ use lib.Seq.{drop-cons, take-suc, set-at, append-snoc, length-take-le, take-leng
 use Rattle.lists.specs.TestsLaws.{or-left, or-right}
 use Rattle.tables.specs.Tables.{table, Table}
 use Rattle.outcomes.specs.Refusals.{accepted, noRoom}
-use Rattle.slips.specs.declared.answer.Answer.{Answer}
-use Rattle.slips.specs.Answers.{refused}
+use Rattle.answers.specs.declared.Answer.{Answer}
+use Rattle.answers.specs.Answers.{refused}
 use Rattle.outcomes.specs.Outcome.{over, Leaves}
 use Rattle.handing.specs.Handing.{lacksRoom, handedOf}
 

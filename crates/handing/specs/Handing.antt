@@ -7,8 +7,8 @@ use lib.ListN.{length}
 use Rattle.outcomes.specs.Chain.{chain}
 use Rattle.outcomes.specs.Refusals.{accepted, noRoom}
 use Rattle.tables.specs.Tables.{Table}
-use Rattle.slips.specs.declared.answer.Answer.{Answer}
-use Rattle.slips.specs.Answers.{refused}
+use Rattle.answers.specs.declared.Answer.{Answer}
+use Rattle.answers.specs.Answers.{refused}
 use Rattle.outcomes.specs.Outcome.{Outcome, over}
 
 -- one of the four is shorter than what it is to hold

@@ -9,7 +9,7 @@ use lib.Dec.{eqb}
 use lib.ListN.{length}
 use Rattle.outcomes.specs.Refusals.{accepted}
 use Rattle.tables.specs.Tables.{Table, table}
-use Rattle.slips.specs.declared.answer.Answer.{Answer}
+use Rattle.answers.specs.declared.Answer.{Answer}
 use Rattle.outcomes.specs.Outcome.{Leaves}
 use Rattle.handing.specs.Handing.{lacksRoom, overAll, handedOf}
 

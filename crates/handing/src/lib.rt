@@ -1,7 +1,6 @@
 // A table handed out: its parts copied to the buffers, where they have room.
+use answers::Answer;
 use outcomes::Refusal;
-use slips::answer;
-use slips::answer::Answer;
 ghost use mathlib.Core.Path.{_≡_};
 ghost use Prim.Native.Nat.{_≤_};
 ghost use lib.ListN.{length};
@@ -71,7 +70,7 @@ pub fn hand_out(
         lengths_out.len(),
         values_out.len(),
     ) {
-        return answer::refused(Refusal::NO_ROOM, 0);
+        return answers::refused(Refusal::NO_ROOM, 0);
     }
     copy_cells(types, types_out);
     copy_cells(counts, counts_out);

@@ -12,15 +12,15 @@ use Rattle.trees.specs.Rules.{maxBytes, maxNodes}
 use Rattle.trees.specs.Join.{join}
 use Rattle.tables.specs.Areas.{smallBytes, smallNodes}
 use Rattle.outcomes.specs.Refusals.{accepted, rootsDiffer}
-use Rattle.slips.specs.declared.answer.Answer.{Answer}
+use Rattle.answers.specs.declared.Answer.{Answer}
 use Rattle.slips.specs.declared.header.Header.{Header}
-use Rattle.slips.specs.Answers.{refused}
+use Rattle.answers.specs.Answers.{refused}
 use Rattle.slips.specs.Check.{headerOf, bodyOf, checkOf}
 use Rattle.slips.specs.HeaderLaws.{header-told, check-refused, check-body}
 use Rattle.outcomes.specs.Outcome.{Output, Leaves, still}
 use Rattle.slips.specs.SlipTree.{slipTree}
-use Rattle.both_slips.specs.Both.{sided, bothOf}
-use Rattle.both_slips.specs.BothLaws.{bothBy, both-told}
+use Rattle.answers.specs.Both.{sided, bothOf}
+use Rattle.answers.specs.BothLaws.{bothBy, both-told}
 use Rattle.both_slips.specs.Contracts.{Headed}
 use Rattle.join_tables.specs.Joined.{joinedOf}
 use Rattle.join.specs.Join.{joinOf}

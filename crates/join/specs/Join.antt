@@ -5,11 +5,11 @@ use mathlib.Core.Bool.{Bool}
 use mathlib.Core.List.{List, map}
 use Rattle.outcomes.specs.Chain.{chain}
 use Rattle.trees.specs.Join.{join}
-use Rattle.slips.specs.declared.answer.Answer.{Answer}
+use Rattle.answers.specs.declared.Answer.{Answer}
 use Rattle.slips.specs.Check.{checkOf}
 use Rattle.outcomes.specs.Outcome.{Output, still}
 use Rattle.slips.specs.SlipTree.{slipTree}
-use Rattle.both_slips.specs.Both.{bothTests}
+use Rattle.answers.specs.Both.{bothTests}
 use Rattle.join_tables.specs.Joined.{joinedOf}
 
 -- a test that refuses leaves the output

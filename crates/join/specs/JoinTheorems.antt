@@ -19,16 +19,16 @@ use Rattle.trees.specs.JoinAlgebra.{join-idem, join-comm}
 use Rattle.trees.specs.Rows.{rows, number}
 use Rattle.outcomes.specs.Refusals.{accepted, rootsDiffer, joinTooLarge}
 use Rattle.codec.specs.Writing.{slipOf}
-use Rattle.slips.specs.Answers.{refused}
+use Rattle.answers.specs.Answers.{refused}
 use Rattle.slips.specs.Check.{checkOf}
 use Rattle.outcomes.specs.Outcome.{over, Output, still}
-use Rattle.slips.specs.declared.answer.Answer.{Answer}
+use Rattle.answers.specs.declared.Answer.{Answer}
 use Rattle.slips.specs.SlipTrees.{SlipOf, check-complete}
 use Rattle.slips.specs.SlipTree.{slipTree}
 use Rattle.slips.specs.SlipTreeLaws.{slip-tree}
 use Rattle.send.specs.Sent.{sent, sentTree}
 use Rattle.slips.specs.ByteTrees.{OfBytes, proper-bytes, tree-slip, accepted-slip}
-use Rattle.both_slips.specs.Both.{sided}
+use Rattle.answers.specs.Both.{sided}
 use Rattle.join_tables.specs.Joined.{clashed, tooLarge, joinedOf}
 use Rattle.join.specs.Join.{joinOf}
 

@@ -1,10 +1,9 @@
 // The join of two slips.
-use both_slips::answers::sided;
+use answers::Answer;
+use answers::sided;
 use join_tables::areas::FullPair;
 use join_tables::areas::SmallPair;
 use outcomes::Refusal;
-use slips::answer;
-use slips::answer::Answer;
 use slips::check;
 use slips::header;
 use tables::areas::Small;
@@ -116,7 +115,7 @@ pub fn join(s: &[u8], u: &[u8], out: &mut [u8]) -> Answer
 {
     let h = header::header_of(s);
     if h.number != Refusal::ACCEPTED {
-        return sided(1, answer::refused(h.number, 0));
+        return sided(1, answers::refused(h.number, 0));
     }
     let g = header::header_of(u);
     if g.number != Refusal::ACCEPTED {
@@ -125,7 +124,7 @@ pub fn join(s: &[u8], u: &[u8], out: &mut [u8]) -> Answer
         if a.number != Refusal::ACCEPTED {
             return sided(1, a);
         }
-        return sided(2, answer::refused(g.number, 0));
+        return sided(2, answers::refused(g.number, 0));
     }
     let n = h.count;
     let m = g.count;

@@ -12,8 +12,8 @@ use Rattle.outcomes.specs.Refusals.{joinTooLarge}
 use Rattle.codec.specs.Writing.{slipOf}
 use Rattle.columns.specs.declared.gather.Gathered.{Gathered}
 use Rattle.columns.specs.Gathers.{cellOf, valuesOf, GatherGives}
-use Rattle.slips.specs.declared.answer.Answer.{Answer}
-use Rattle.slips.specs.Answers.{refused}
+use Rattle.answers.specs.declared.Answer.{Answer}
+use Rattle.answers.specs.Answers.{refused}
 use Rattle.outcomes.specs.Outcome.{Leaves}
 use Rattle.send.specs.Sent.{sentTree}
 use Rattle.join_tables.specs.Contracts.{fitted}

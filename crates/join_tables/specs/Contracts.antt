@@ -16,8 +16,8 @@ use Rattle.codec.specs.Writing.{slipOf}
 use Rattle.sha2.specs.Sha256 as Sha256
 use Rattle.join_rows.specs.Plans.{TwoTables}
 use Rattle.columns.specs.Gathers.{cellOf, valuesOf, Gatherable}
-use Rattle.slips.specs.declared.answer.Answer.{Answer}
-use Rattle.slips.specs.Answers.{refused}
+use Rattle.answers.specs.declared.Answer.{Answer}
+use Rattle.answers.specs.Answers.{refused}
 use Rattle.outcomes.specs.Outcome.{Output, Leaves, still}
 use Rattle.send.specs.Sent.{sentTree}
 use Rattle.join_tables.specs.Joined.{joinedOf}

@@ -7,14 +7,13 @@ use lib.Dec.{ltb}
 use lib.ListN.{length}
 use Rattle.outcomes.specs.Chain.{chain}
 use Rattle.trees.specs.Nodes.{Node, size}
-use Rattle.trees.specs.Rules.{maxNodes, maxBytes}
+use Rattle.trees.specs.Rules.{maxNodes, maxBytes, noLabel}
 use Rattle.trees.specs.Join.{Joint, ok, clash}
 use Rattle.trees.specs.Rows.{rows, number}
 use Rattle.outcomes.specs.Refusals.{joinTooLarge, clashing}
 use Rattle.codec.specs.Writing.{slipOf}
-use Rattle.engine.specs.Engine.{noLabel}
-use Rattle.slips.specs.declared.answer.Answer.{Answer}
-use Rattle.slips.specs.Answers.{refused}
+use Rattle.answers.specs.declared.Answer.{Answer}
+use Rattle.answers.specs.Answers.{refused}
 use Rattle.outcomes.specs.Outcome.{Output, still}
 use Rattle.send.specs.Sent.{sentTree}
 

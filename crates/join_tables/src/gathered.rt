@@ -1,11 +1,10 @@
 // The table that a plan names, handed out as a slip unless it is too large.
 use crate::areas::FullPair;
 use crate::areas::SmallPair;
+use answers::Answer;
 use codec::measure;
 use columns::gather;
 use outcomes::Refusal;
-use slips::answer;
-use slips::answer::Answer;
 use tables::limits::Slip;
 ghost use Prim.Native.Nat.{_*_, _≤_};
 ghost use lib.ListN.{length};
@@ -28,7 +27,7 @@ fn deliver(
 {
     let bytes = measure::size(types, counts, lengths);
     if Slip::MAX_BYTES < bytes {
-        return answer::refused(Refusal::JOIN_TOO_LARGE, 0);
+        return answers::refused(Refusal::JOIN_TOO_LARGE, 0);
     }
     send::send_tree(types, counts, lengths, values, label, out)
 }

@@ -8,8 +8,8 @@ use Rattle.unicode.specs.Utf8.{width, within, low, high, tail, twoBytes, threeB
 use Rattle.unicode.specs.Repertoire.{member, marks, isMark, plain, allPlain}
 use Rattle.titles.specs.Compose.{composedText}
 use Rattle.codec.specs.Reading.{readValue, readLeaf, readRest, readOne, readAll}
-use Rattle.slips.specs.declared.answer.Answer.{Answer}
-use Rattle.slips.specs.Answers.{taken}
+use Rattle.answers.specs.declared.Answer.{Answer}
+use Rattle.answers.specs.Answers.{taken}
 use Rattle.slips.specs.Check.{paddingFits, settled, headerOf, bodyOf, checkOf}
 use Rattle.trees.specs.Examples.{lengthLabel}
 use Rattle.label_cases.specs.Values.{bytes}

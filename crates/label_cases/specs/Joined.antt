@@ -9,10 +9,10 @@ use Rattle.unicode.specs.Repertoire.{member, marks, isMark, plain, allPlain}
 use Rattle.titles.specs.Compose.{composedText}
 use Rattle.codec.specs.Reading.{readValue, readLeaf, readRest, readOne, readAll}
 use Rattle.codec.specs.Writing.{leafBits, entryBits, allBits, slipBits, slipOf}
-use Rattle.slips.specs.Answers.{taken}
+use Rattle.answers.specs.Answers.{taken}
 use Rattle.slips.specs.Check.{paddingFits, settled, headerOf, bodyOf, checkOf}
 use Rattle.outcomes.specs.Outcome.{over, Output, still}
-use Rattle.slips.specs.declared.answer.Answer.{Answer}
+use Rattle.answers.specs.declared.Answer.{Answer}
 use Rattle.send.specs.Sent.{sent}
 use Rattle.join_tables.specs.Joined.{clashed, joinedOf}
 use Rattle.join.specs.Join.{joinOf}

@@ -77,6 +77,15 @@ pub same-refl : (x : List ℕ) → same x x ≡ true
 same-refl [] = refl
 same-refl (a ∷ x) = and-both (eqb a a) (same x x) (eq-eqb a a refl) (same-refl x)
 
+-- a test that holds just where two lists are equal
+pub same-by : (r : Bool) (x y : List ℕ) → (r ≡ true → x ≡ y) → (x ≡ y → r ≡ true) → r ≡ same x y
+same-by true x y f g = sym (subst (λ (z : List ℕ). same x z ≡ true) (f refl) (same-refl x))
+same-by false x y f g = go (same x y) refl
+  where
+    go : (b : Bool) → same x y ≡ b → false ≡ b
+    go true e = absurd (false≢true (g (same-true x y e)))
+    go false e = refl
+
 pub same-false : (x y : List ℕ) → same x y ≡ false → x ≢ y
 same-false x y e q = true≢false (sym (same-refl x) ∙ ap (same x) q ∙ e)
 

@@ -1,10 +1,10 @@
 // The static library: each public call under a plain name, for C and Rust. include/liwharoko.h declares them.
+use answers::Answer;
 use join::join;
 use lookup::held;
 use lookup::held::Spot;
 use lookup::holder;
 use prune::prune;
-use slips::answer::Answer;
 use titles::Composed;
 ghost use mathlib.Core.Path.{_≡_};
 ghost use Rattle.sha2.specs.Sha256 as Sha256;

@@ -1,12 +1,11 @@
 // The join of the two trees that the columns hold.
+use answers::Answer;
 use columns::survey;
 use join_rows::plan;
 use join_tables::areas::FullPair;
 use join_tables::areas::SmallPair;
 use join_tables::gathered;
 use outcomes::Refusal;
-use slips::answer;
-use slips::answer::Answer;
 use tables::limits::Slip;
 ghost use mathlib.Core.Path.{_≡_};
 ghost use Prim.Native.Nat.{_*_, _≤_};
@@ -63,7 +62,7 @@ fn merge_in<'a>(
         return clashed(p.first, p.second);
     }
     if Slip::MAX_NODES < p.rows {
-        return answer::refused(Refusal::JOIN_TOO_LARGE, 0);
+        return answers::refused(Refusal::JOIN_TOO_LARGE, 0);
     }
     let from = cells.len() - p.rows;
     gathered::hand_out(

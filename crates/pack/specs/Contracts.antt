@@ -5,7 +5,7 @@ use lib.ListN.{length}
 use Rattle.outcomes.specs.Refusals.{accepted}
 use Rattle.tables.specs.Tables.{Table, Formed}
 use Rattle.codec.specs.Writing.{slipOf}
-use Rattle.slips.specs.declared.answer.Answer.{Answer}
+use Rattle.answers.specs.declared.Answer.{Answer}
 use Rattle.pack.specs.Pack.{rowsOf}
 
 -- a table of the form whose slip has room

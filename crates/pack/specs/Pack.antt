@@ -12,9 +12,9 @@ use Rattle.outcomes.specs.Refusals.{accepted, tooLong, noNodes, notOneTree, noR
 use Rattle.tables.specs.Tables.{Table, entries, columnsFit, firstBad, rowBad, areaFits}
 use Rattle.codec.specs.Writing.{slipOf}
 use Rattle.engine.specs.Engine.{oneTree, rootLabel}
-use Rattle.slips.specs.declared.answer.Answer.{Answer}
+use Rattle.answers.specs.declared.Answer.{Answer}
 use Rattle.pack.specs.declared.Fault.{Fault}
-use Rattle.slips.specs.Answers.{refused, taken}
+use Rattle.answers.specs.Answers.{refused, taken}
 use Rattle.outcomes.specs.Outcome.{Output, over}
 
 -- the table's entries

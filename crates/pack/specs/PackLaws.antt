@@ -20,8 +20,8 @@ use Rattle.codec.specs.ProperLaws.{table-formed}
 use Rattle.codec.specs.TableLaws.{row-cases, form-cons}
 use Rattle.engine.specs.Engine.{oneTree, rootLabel, told}
 use Rattle.engine.specs.declared.judge.Judged.{Judged}
-use Rattle.slips.specs.declared.answer.Answer.{Answer}
-use Rattle.slips.specs.Answers.{refused, taken}
+use Rattle.answers.specs.declared.Answer.{Answer}
+use Rattle.answers.specs.Answers.{refused, taken}
 use Rattle.slips.specs.Verdicts.{Refuses, verdict-refuses}
 use Rattle.pack.specs.Pack.{rowsOf, badRow, tableFault, judgedAs, answerOf, packOf}
 use Rattle.outcomes.specs.Outcome.{over, Leaves}

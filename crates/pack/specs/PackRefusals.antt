@@ -14,8 +14,8 @@ use Rattle.trees.specs.RefusedLaws.{breaks-number, refused-broken, broken-refus
 use Rattle.outcomes.specs.Refusals.{accepted, notOneTree, badTable, childrenMissing, notComposed}
 use Rattle.tables.specs.Tables.{Table, tableFits}
 use Rattle.codec.specs.Writing.{slipOf}
-use Rattle.slips.specs.declared.answer.Answer.{Answer}
-use Rattle.slips.specs.Answers.{refused}
+use Rattle.answers.specs.declared.Answer.{Answer}
+use Rattle.answers.specs.Answers.{refused}
 use Rattle.slips.specs.SlipRefusals.{none-left, scattered-tags}
 use Rattle.pack.specs.Pack.{rowsOf, tableFault, judgedAs, answerOf}
 use Rattle.pack.specs.PackLaws.{fault-cases, refused-unfit, unfit-refused, rows-of-formed, answer-cases, judged-cases, number-of, answer-faulty}

@@ -23,8 +23,8 @@ use Rattle.tables.specs.TablesLaws.{columns-told, length-entries}
 use Rattle.codec.specs.Writing.{slipOf}
 use Rattle.codec.specs.TableLaws.{fits-internal, fits-dangling, fits-pair}
 use Rattle.engine.specs.Engine.{oneTree}
-use Rattle.slips.specs.declared.answer.Answer.{Answer}
-use Rattle.slips.specs.Answers.{refused, taken}
+use Rattle.answers.specs.declared.Answer.{Answer}
+use Rattle.answers.specs.Answers.{refused, taken}
 use Rattle.outcomes.specs.Outcome.{over}
 use Rattle.slips.specs.Verdicts.{Refuses, verdict-refuses}
 use Rattle.tables.specs.Cells.{typeCell, countCell, lengthCell, valueCell, valuesOf}

@@ -18,8 +18,8 @@ use Rattle.codec.specs.Writing.{slipOf}
 use Rattle.codec.specs.Proper.{AllProper}
 use Rattle.codec.specs.ProperLaws.{table-proper}
 use Rattle.codec.specs.SlipLaws.{Reads, slip-reads}
-use Rattle.slips.specs.declared.answer.Answer.{Answer}
-use Rattle.slips.specs.Answers.{taken}
+use Rattle.answers.specs.declared.Answer.{Answer}
+use Rattle.answers.specs.Answers.{taken}
 use Rattle.slips.specs.Check.{countOf, readingOf, checkOf}
 use Rattle.outcomes.specs.Outcome.{Output, over, Outcome}
 use Rattle.slips.specs.SlipTrees.{SlipOf, check-complete, slip-rows}

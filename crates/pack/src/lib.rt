@@ -1,11 +1,10 @@
 // A table packed into a slip.
+use answers::Answer;
 use codec::measure;
 use codec::write;
 use engine::judge;
 use engine::judge::Judged;
 use outcomes::Refusal;
-use slips::answer;
-use slips::answer::Answer;
 use tables::areas::Full;
 use tables::form;
 use tables::limits::Slip;
@@ -76,24 +75,24 @@ fn answer_of(types: &[u16], counts: &[u16], lengths: &[u16], values: &[u8], room
 {
     let f = fault_of(types, counts, lengths, values);
     if f.number != Refusal::ACCEPTED {
-        return answer::refused(f.number, f.place);
+        return answers::refused(f.number, f.place);
     }
     let bytes = measure::size(types, counts, lengths);
     if Slip::MAX_BYTES < bytes {
-        return answer::refused(Refusal::TOO_LONG, 0);
+        return answers::refused(Refusal::TOO_LONG, 0);
     }
     let j = judged(types, counts, lengths, values);
     if j.number != Refusal::ACCEPTED {
-        return answer::refused(j.number, j.place);
+        return answers::refused(j.number, j.place);
     }
     if !j.one {
-        return answer::refused(Refusal::NOT_ONE_TREE, 0);
+        return answers::refused(Refusal::NOT_ONE_TREE, 0);
     }
     if room < bytes {
-        return answer::refused(Refusal::NO_ROOM, 0);
+        return answers::refused(Refusal::NO_ROOM, 0);
     }
     let label = j.label;
-    answer::taken(bytes, j.blocks, label)
+    answers::taken(bytes, j.blocks, label)
 }
 
 // Leaves a table into `out`: the slip of its tree, or the refusal.

@@ -6,7 +6,7 @@ use lib.Dec.{eqb}
 use Rattle.outcomes.specs.Chain.{chain}
 use Rattle.outcomes.specs.Refusals.{accepted}
 use Rattle.tables.specs.Cells.{countCell}
-use Rattle.slips.specs.declared.answer.Answer.{Answer}
+use Rattle.answers.specs.declared.Answer.{Answer}
 use Rattle.slips.specs.Check.{readingOf, checkOf}
 use Rattle.outcomes.specs.Outcome.{Output, still}
 use Rattle.slips.specs.SlipTree.{slipTree}

@@ -8,7 +8,7 @@ use lib.ListN.{take}
 use Rattle.outcomes.specs.Refusals.{accepted}
 use Rattle.tables.specs.Cells.{countCell}
 use Rattle.prune_rows.specs.TableLaws.{entries-counts}
-use Rattle.slips.specs.declared.answer.Answer.{Answer}
+use Rattle.answers.specs.declared.Answer.{Answer}
 use Rattle.slips.specs.Check.{readingOf, checkOf}
 use Rattle.outcomes.specs.Outcome.{Leaves}
 use Rattle.slips.specs.SlipTree.{slipTree}

@@ -29,8 +29,8 @@ use Rattle.prune_rows.specs.NamesLaws.{countsOf, le-listed}
 use Rattle.prune_rows.specs.NamesLaws as Names
 use Rattle.prune_rows.specs.PrunedLaws.{rows-pruned}
 use Rattle.prune_rows.specs.Width.{width, pruned-narrow}
-use Rattle.slips.specs.declared.answer.Answer.{Answer}
-use Rattle.slips.specs.Answers.{refused, taken}
+use Rattle.answers.specs.declared.Answer.{Answer}
+use Rattle.answers.specs.Answers.{refused, taken}
 use Rattle.slips.specs.Check.{checkOf}
 use Rattle.outcomes.specs.Outcome.{over, Output, still}
 use Rattle.slips.specs.SlipTrees.{SlipOf, proper-formed, slip-rows, check-complete}

@@ -1,7 +1,6 @@
 // The pruning of a slip.
+use answers::Answer;
 use outcomes::Refusal;
-use slips::answer;
-use slips::answer::Answer;
 use slips::header;
 use slips::open;
 use tables::areas::Full;
@@ -105,7 +104,7 @@ pub fn prune(s: &[u8], list: &[u16], out: &mut [u8]) -> Answer
 {
     let h = header::header_of(s);
     if h.number != Refusal::ACCEPTED {
-        return answer::refused(h.number, 0);
+        return answers::refused(h.number, 0);
     }
     let n = h.count;
     if s.len() <= Small::BYTES {

@@ -9,7 +9,7 @@ use Rattle.tables.specs.PruningList.{firstFault, pruned}
 use Rattle.tables.specs.Records.{Holds}
 use Rattle.sha2.specs.Sha256 as Sha256
 use Rattle.send.specs.Sent.{sentTree}
-use Rattle.slips.specs.declared.answer.Answer.{Answer}
+use Rattle.answers.specs.declared.Answer.{Answer}
 use Rattle.outcomes.specs.Outcome.{Leaves}
 use Rattle.prune_tables.specs.Pruned.{prunedOf}
 

@@ -15,8 +15,8 @@ use Rattle.tables.specs.Records.{TreeTable, Holds}
 use Rattle.tables.specs.ListRule.{fault-within}
 use Rattle.prune_rows.specs.Contracts.{Written, PruneGives}
 use Rattle.prune_rows.specs.PrunedLaws.{rows-pruned}
-use Rattle.slips.specs.declared.answer.Answer.{Answer}
-use Rattle.slips.specs.Answers.{refused}
+use Rattle.answers.specs.declared.Answer.{Answer}
+use Rattle.answers.specs.Answers.{refused}
 use Rattle.outcomes.specs.Outcome.{Output, Leaves}
 use Rattle.send.specs.Sent.{sentTree}
 use Rattle.prune_tables.specs.Pruned.{prunedOf}

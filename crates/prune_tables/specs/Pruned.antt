@@ -8,9 +8,9 @@ use Rattle.outcomes.specs.Chain.{chain}
 use Rattle.trees.specs.Nodes.{Node}
 use Rattle.outcomes.specs.Refusals.{badList}
 use Rattle.tables.specs.PruningList.{firstFault, pruned}
-use Rattle.slips.specs.Answers.{refused}
+use Rattle.answers.specs.Answers.{refused}
 use Rattle.outcomes.specs.Outcome.{Output, still}
-use Rattle.slips.specs.declared.answer.Answer.{Answer}
+use Rattle.answers.specs.declared.Answer.{Answer}
 use Rattle.send.specs.Sent.{sentTree}
 
 -- "12", of a list for entries that have so many children each: its place is "the first faulty index in the list"

@@ -1,9 +1,8 @@
 // The pruning of a table: the list's fault, or the pruned tree's slip.
+use answers::Answer;
 use outcomes::Refusal;
 use prune_rows::marks;
 use prune_rows::names;
-use slips::answer;
-use slips::answer::Answer;
 use tables::areas::Full;
 use tables::areas::Small;
 use tables::limits::Slip;
@@ -141,7 +140,7 @@ pub fn cut(
 {
     let bad = names::first_fault(list, counts);
     if bad < list.len() {
-        return answer::refused(Refusal::BAD_LIST, bad);
+        return answers::refused(Refusal::BAD_LIST, bad);
     }
     if types.len() <= Small::NODES {
         if values.len() <= Small::BYTES {

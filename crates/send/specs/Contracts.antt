@@ -6,7 +6,7 @@ use lib.ListN.{length}
 use Rattle.trees.specs.Nodes.{Node, label}
 use Rattle.trees.specs.Rules.{labelBytes}
 use Rattle.tables.specs.Records.{TreeTable}
-use Rattle.slips.specs.declared.answer.Answer.{Answer}
+use Rattle.answers.specs.declared.Answer.{Answer}
 use Rattle.outcomes.specs.Outcome.{Leaves}
 use Rattle.send.specs.Sent.{sentTree}
 

@@ -9,9 +9,9 @@ use Rattle.trees.specs.Nodes.{Node, label, blocks}
 use Rattle.trees.specs.Rows.{Entry, rows}
 use Rattle.outcomes.specs.Refusals.{noRoom}
 use Rattle.codec.specs.Writing.{slipOf}
-use Rattle.slips.specs.Answers.{refused, taken}
+use Rattle.answers.specs.Answers.{refused, taken}
 use Rattle.outcomes.specs.Outcome.{over, Output, still}
-use Rattle.slips.specs.declared.answer.Answer.{Answer}
+use Rattle.answers.specs.declared.Answer.{Answer}
 
 -- "11"
 abbrev pub sentTests : List Entry → List ℕ → List (Bool × Output Answer)

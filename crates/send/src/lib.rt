@@ -1,11 +1,10 @@
 // A table's slip handed out with its blocks and its root label: where pack, prune and join end.
 pub mod blocks;
 
+use answers::Answer;
 use codec::measure;
 use codec::write;
 use outcomes::Refusal;
-use slips::answer;
-use slips::answer::Answer;
 use tables::limits::Slip;
 ghost use Rattle.tables.specs.Tables.{entries, FormedIn};
 ghost use Rattle.outcomes.specs.Outcome.{Leaves};
@@ -27,10 +26,10 @@ pub fn send(
 {
     let bytes = measure::size(types, counts, lengths);
     if out.len() < bytes {
-        return answer::refused(Refusal::NO_ROOM, 0);
+        return answers::refused(Refusal::NO_ROOM, 0);
     }
     write::write(types, counts, lengths, values, out);
-    answer::taken(bytes, blocks, label)
+    answers::taken(bytes, blocks, label)
 }
 
 // The same for the table of a tree, whose blocks are counted here.

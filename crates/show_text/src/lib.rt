@@ -1,6 +1,6 @@
 // What `show` prints of a slip, as document 01 has it. The lines go behind the `from` bytes of a page.
+use answers::Answer;
 use outcomes::Refusal;
-use slips::answer::Answer;
 use slips::header;
 use slips::open;
 use tables::areas::Full;

@@ -17,7 +17,7 @@ use Rattle.engine.specs.Judging.{JudgeAsks, JudgeGives}
 use Rattle.engine.specs.declared.judge.Judged.{Judged}
 use Rattle.sha2.specs.Sha256 as Sha256
 use Rattle.titles.specs.Compose.{composedText}
-use Rattle.slips.specs.declared.answer.Answer.{Answer}
+use Rattle.answers.specs.declared.Answer.{Answer}
 use Rattle.slips.specs.Check.{countOf, readingOf, bodyOf}
 use Rattle.slips.specs.Opening.{OpenAsks, settledBy, OpenGives}
 use Rattle.slips.specs.Verdicts.{settled-told}

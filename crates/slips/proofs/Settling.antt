@@ -12,7 +12,7 @@ use Rattle.bits.specs.Bits.{bitsOf, numOf}
 use Rattle.bits.specs.ByteLaws.{length-bitsOf}
 use Rattle.outcomes.specs.Refusals.{accepted, cutShort, notOneTree, badPadding}
 use Rattle.engine.specs.declared.judge.Judged.{Judged}
-use Rattle.slips.specs.Answers.{refused, taken}
+use Rattle.answers.specs.Answers.{refused, taken}
 use Rattle.slips.specs.Check.{paddingFits}
 use Rattle.slips.specs.Opening.{settledBy}
 

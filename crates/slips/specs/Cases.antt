@@ -7,7 +7,7 @@ use lib.ListN.{replicate}
 use Rattle.bits.specs.Bits.{bitsIn, bitsOf, numOf, octets}
 use Rattle.codec.specs.Reading.{readValue, readLeaf, readRest, readOne, readAll}
 use Rattle.outcomes.specs.Refusals.{cutShort, otherEdition, noNodes, badPadding}
-use Rattle.slips.specs.Answers.{refused, taken}
+use Rattle.answers.specs.Answers.{refused, taken}
 use Rattle.slips.specs.Check.{paddingFits, settled, headerOf, bodyOf, checkOf}
 
 -- "04 01 00 1f, then 31 bytes ff", and a last byte

@@ -12,9 +12,9 @@ use Rattle.tables.specs.Limits.{edition, editionBits, countBits, headerBits}
 use Rattle.outcomes.specs.Refusals.{accepted, tooLong, cutShort, otherEdition, noNodes, notOneTree, badPadding}
 use Rattle.codec.specs.Reading.{Reading, readAll}
 use Rattle.engine.specs.Engine.{oneTree, rootLabel}
-use Rattle.slips.specs.declared.answer.Answer.{Answer}
+use Rattle.answers.specs.declared.Answer.{Answer}
 use Rattle.slips.specs.declared.header.Header.{Header}
-use Rattle.slips.specs.Answers.{refused, taken}
+use Rattle.answers.specs.Answers.{refused, taken}
 
 abbrev pub editionOf : List ℕ → ℕ
 editionOf s = numOf (take editionBits (bitsOf s))

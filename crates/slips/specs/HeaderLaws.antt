@@ -16,7 +16,7 @@ use Rattle.trees.specs.Rules.{maxBytes, maxNodes}
 use Rattle.tables.specs.Limits.{edition, editionBits, countBits, headerBits}
 use Rattle.outcomes.specs.Refusals.{accepted, tooLong, cutShort, otherEdition, noNodes}
 use Rattle.slips.specs.declared.header.Header.{Header}
-use Rattle.slips.specs.Answers.{refused}
+use Rattle.answers.specs.Answers.{refused}
 use Rattle.slips.specs.Check.{editionOf, countOf, headerTests, headerOf, bodyOf, checkOf}
 use Rattle.slips.specs.Opening.{Counted}
 

@@ -15,7 +15,7 @@ use Rattle.tables.specs.Tables.{entryOf, entries, sum, Columns}
 use Rattle.engine.specs.Engine.{RowsLabelled}
 use Rattle.sha2.specs.Sha256 as Sha256
 use Rattle.titles.specs.Compose.{composedText}
-use Rattle.slips.specs.declared.answer.Answer.{Answer}
+use Rattle.answers.specs.declared.Answer.{Answer}
 use Rattle.slips.specs.declared.open.Opened.{Opened}
 use Rattle.slips.specs.Check.{countOf}
 use Rattle.slips.specs.Opening.{OpenGives}

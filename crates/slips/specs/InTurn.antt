@@ -12,8 +12,8 @@ use Rattle.trees.specs.Rows.{Entry, Tag, Step, fault, next, Verdict, faulty, le
 use Rattle.outcomes.specs.Refusals.{cutShort}
 use Rattle.codec.specs.Reading.{Read, short, got, Reading, after, readOne, readAll}
 use Rattle.engine.specs.Engine.{oneTree, rootLabel}
-use Rattle.slips.specs.declared.answer.Answer.{Answer}
-use Rattle.slips.specs.Answers.{refused, taken}
+use Rattle.answers.specs.declared.Answer.{Answer}
+use Rattle.answers.specs.Answers.{refused, taken}
 use Rattle.tables.specs.Limits.{headerBits}
 use Rattle.slips.specs.Check.{countOf, readingOf, endTests, settled, bodyOf}
 

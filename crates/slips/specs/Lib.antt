@@ -1,5 +1,4 @@
--- What a call on slips answers, and what the check answers. Definitions, in reading order:
-pub mod Answers
+-- What the check answers. Definitions, in reading order:
 pub mod Check
 pub mod SlipTree
 -- What a slip is opened in, and what the areas then hold.

@@ -13,9 +13,9 @@ use Rattle.sha2.specs.Sha256 as Sha256
 use Rattle.titles.specs.Compose.{composedText}
 use Rattle.engine.specs.Engine.{RowsLabelled}
 use Rattle.engine.specs.declared.judge.Judged.{Judged}
-use Rattle.slips.specs.declared.answer.Answer.{Answer}
+use Rattle.answers.specs.declared.Answer.{Answer}
 use Rattle.slips.specs.declared.open.Opened.{Opened}
-use Rattle.slips.specs.Answers.{refused, taken}
+use Rattle.answers.specs.Answers.{refused, taken}
 use Rattle.tables.specs.Limits.{headerBits}
 use Rattle.slips.specs.Check.{countOf, readingOf, endTests, bodyOf}
 

@@ -21,8 +21,8 @@ use Rattle.outcomes.specs.Refusals.{accepted, cutShort, noNodes, notOneTree, ba
 use Rattle.codec.specs.Reading.{Reading}
 use Rattle.codec.specs.RoundTrip.{read-all-was}
 use Rattle.engine.specs.Engine.{oneTree}
-use Rattle.slips.specs.declared.answer.Answer.{Answer}
-use Rattle.slips.specs.Answers.{refused}
+use Rattle.answers.specs.declared.Answer.{Answer}
+use Rattle.answers.specs.Answers.{refused}
 use Rattle.slips.specs.Check.{editionOf, countOf, readingOf, paddingFits, settled, headerOf, bodyOf, checkOf}
 use Rattle.slips.specs.HeaderLaws.{check-refused, check-body}
 use Rattle.slips.specs.SlipTrees.{proper-formed}

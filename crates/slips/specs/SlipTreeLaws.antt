@@ -19,8 +19,8 @@ use Rattle.outcomes.specs.Refusals.{accepted}
 use Rattle.codec.specs.Reading.{Reading}
 use Rattle.tables.specs.Limits.{headerBits}
 use Rattle.codec.specs.RoundTrip.{read-all-was}
-use Rattle.slips.specs.declared.answer.Answer.{Answer}
-use Rattle.slips.specs.Answers.{taken}
+use Rattle.answers.specs.declared.Answer.{Answer}
+use Rattle.answers.specs.Answers.{taken}
 use Rattle.slips.specs.SlipTree.{firstTree, treeOf, slipTree}
 use Rattle.slips.specs.Check.{countOf, readingOf, paddingFits, settled, headerOf, bodyOf, checkOf}
 use Rattle.slips.specs.HeaderLaws.{check-refused, check-body}

@@ -30,8 +30,8 @@ use Rattle.codec.specs.Proper.{AllProper}
 use Rattle.codec.specs.RoundTrip.{Was, read-all-was}
 use Rattle.codec.specs.SlipLaws.{Reads, slip-reads, reads-slip, slip-unique}
 use Rattle.engine.specs.Engine.{oneTree, rootLabel}
-use Rattle.slips.specs.declared.answer.Answer.{Answer}
-use Rattle.slips.specs.Answers.{taken}
+use Rattle.answers.specs.declared.Answer.{Answer}
+use Rattle.answers.specs.Answers.{taken}
 use Rattle.slips.specs.Check.{countOf, readingOf, paddingFits, settledTests, settled, headerOf, bodyOf, checkOf}
 use Rattle.slips.specs.HeaderLaws.{header-counted, header-told, header-edition-is, check-refused, check-body}
 use Rattle.slips.specs.Verdicts.{Refuses, verdict-refuses}

@@ -1,8 +1,7 @@
 // The check of a slip.
-use crate::answer;
-use crate::answer::Answer;
 use crate::header;
 use crate::open;
+use answers::Answer;
 use outcomes::Refusal;
 use tables::areas::Full;
 use tables::areas::Small;
@@ -65,7 +64,7 @@ pub fn check(s: &[u8]) -> Answer
 {
     let h = header::header_of(s);
     if h.number != Refusal::ACCEPTED {
-        return answer::refused(h.number, 0);
+        return answers::refused(h.number, 0);
     }
     let n = h.count;
     if s.len() <= Small::BYTES {

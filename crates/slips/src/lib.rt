@@ -1,5 +1,4 @@
-// Slips of the deep store: the check, and what every call on slips shares.
-pub mod answer;
+// Slips of the deep store: the check, and what every call that reads one shares.
 pub mod check;
 pub mod header;
 pub mod open;

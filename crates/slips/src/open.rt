@@ -1,6 +1,5 @@
 // A slip opened: its table read, judged and settled, in areas that the caller lends.
-use crate::answer;
-use crate::answer::Answer;
+use answers::Answer;
 use bits::read;
 use codec::fill;
 use codec::fill::Filled;
@@ -40,19 +39,19 @@ fn settled(s: &[u8], f: Filled, j: Judged) -> Answer
     ensures { λ r. ⌜ r ≡ settledBy (length (now (s .entry))) (f .rows) (f .whole) (drop (f .at) (bitsOf (now (s .entry)))) j ⌝ }
 {
     if j.number != Refusal::ACCEPTED {
-        return answer::refused(j.number, j.place);
+        return answers::refused(j.number, j.place);
     }
     if !f.whole {
-        return answer::refused(Refusal::CUT_SHORT, f.rows);
+        return answers::refused(Refusal::CUT_SHORT, f.rows);
     }
     if !j.one {
-        return answer::refused(Refusal::NOT_ONE_TREE, 0);
+        return answers::refused(Refusal::NOT_ONE_TREE, 0);
     }
     if !padding_fits(s, f.at) {
-        return answer::refused(Refusal::BAD_PADDING, 0);
+        return answers::refused(Refusal::BAD_PADDING, 0);
     }
     let label = j.label;
-    answer::taken(s.len(), j.blocks, label)
+    answers::taken(s.len(), j.blocks, label)
 }
 
 // Reads the n entries of a slip whose header is taken into the columns and the values area, and judges them.

@@ -1,8 +1,7 @@
 // The tree of a slip as people draw it.
+use answers::Answer;
 use outcomes::Refusal;
 use row_lines::drawing;
-use slips::answer;
-use slips::answer::Answer;
 use slips::header;
 use slips::open;
 use slips::open::Opened;
@@ -21,7 +20,7 @@ pub fn draw(s: &[u8]) -> Answer
 {
     let h = header::header_of(s);
     if h.number != Refusal::ACCEPTED {
-        return answer::refused(h.number, 0);
+        return answers::refused(h.number, 0);
     }
     let n = h.count;
     opened(s, n)

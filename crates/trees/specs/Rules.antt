@@ -4,7 +4,7 @@ use mathlib.Core.Bool.{Bool, true, not, _&&_, _||_}
 use mathlib.Core.List.{List, [], _∷_}
 use Prim.Native.Nat.{ℕ, zero, suc, _≤_}
 use lib.Dec.{leb, eqb}
-use lib.ListN.{length}
+use lib.ListN.{length, replicate}
 use Rattle.lists.specs.Lists.{all}
 use Rattle.trees.specs.Nodes.{Node, Run, inner, leaf, nil, cons, typeOf, height, Head, heads}
 
@@ -27,6 +27,10 @@ maxHeight = 16
 -- "its label is 32 bytes"
 abbrev pub labelBytes : ℕ
 labelBytes = 32
+
+-- "label all zero"
+abbrev pub noLabel : List ℕ
+noLabel = replicate labelBytes 0
 
 -- "Type 1 is a salt"
 abbrev pub saltType : ℕ

@@ -5,7 +5,7 @@ use mathlib.Core.Path.{_≡_, sym, ap, _∙_, subst₂}
 use lib.ListN.{length, take}
 use lib.Seq.{length-take-le}
 use Rattle.tables.specs.Tables.{Table, table}
-use Rattle.slips.specs.declared.answer.Answer.{Answer}
+use Rattle.answers.specs.declared.Answer.{Answer}
 use Rattle.slips.specs.declared.open.Opened.{Opened}
 use Rattle.slips.specs.Check.{readingOf}
 use Rattle.slips.specs.Opening.{OpenGives}

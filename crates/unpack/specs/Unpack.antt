@@ -8,7 +8,7 @@ use Rattle.tables.specs.Tables.{Table, sum}
 use Rattle.slips.specs.Check.{readingOf, checkOf}
 use Rattle.tables.specs.Cells.{typeCell, countCell, lengthCell, valuesOf}
 use Rattle.outcomes.specs.Outcome.{Outcome}
-use Rattle.slips.specs.declared.answer.Answer.{Answer}
+use Rattle.answers.specs.declared.Answer.{Answer}
 use Rattle.handing.specs.Handing.{handedOf}
 
 -- the table of n rows at the start of four buffers: its rows, and as many values as their lengths sum to

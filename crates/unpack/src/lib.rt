@@ -1,7 +1,6 @@
 // A slip unpacked into the four buffers of a table.
+use answers::Answer;
 use outcomes::Refusal;
-use slips::answer;
-use slips::answer::Answer;
 use slips::header;
 use slips::open;
 use tables::areas::Full;
@@ -69,7 +68,7 @@ pub fn unpack(
 {
     let h = header::header_of(s);
     if h.number != Refusal::ACCEPTED {
-        return answer::refused(h.number, 0);
+        return answers::refused(h.number, 0);
     }
     let n = h.count;
     unpack_taken(s, n, types_out, counts_out, lengths_out, values_out)

@@ -7,11 +7,11 @@ use denote.Ref.{now}
 use lib.ListN.{length, drop}
 use lib.Seq.{length-take-le, take-append-le}
 use Rattle.lists.specs.ListsLaws.{same-true}
-use Rattle.slips.specs.declared.answer.Answer.{Answer}
+use Rattle.answers.specs.declared.Answer.{Answer}
 use Rattle.slips.specs.Check.{countOf}
 use Rattle.slips.specs.HoldingLaws.{Rooms, holds-tree}
-use Rattle.both_slips.specs.Both.{bothOf}
-use Rattle.both_slips.specs.BothLaws.{both-told}
+use Rattle.answers.specs.Both.{bothOf}
+use Rattle.answers.specs.BothLaws.{both-told}
 use Rattle.both_slips.proofs.Holding.{tables-held}
 use borrow.Author.Needs.{needs}
 use Rattle.both_slips.proofs.hold_both.Statement.{statement}

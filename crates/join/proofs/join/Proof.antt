@@ -1,6 +1,6 @@
 use mathlib.Core.Path.{sym, ap, _∙_}
-use Rattle.slips.specs.declared.answer.Answer.{Answer}
-use Rattle.both_slips.specs.Both.{sided}
+use Rattle.answers.specs.declared.Answer.{Answer}
+use Rattle.answers.specs.Both.{sided}
 use Rattle.join.proofs.Answering.{headed, headed-small, join-first, head-first, head-second}
 use borrow.Author.Needs.{needs}
 use Rattle.join.proofs.join.Statement.{statement}

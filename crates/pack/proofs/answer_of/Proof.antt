@@ -8,9 +8,9 @@ use Rattle.outcomes.specs.Refusals.{accepted}
 use Rattle.trees.specs.Rules.{maxBytes}
 use Rattle.tables.specs.Tables.{Table, table, Formed}
 use Rattle.codec.specs.Writing.{slipOf}
-use Rattle.slips.specs.declared.answer.Answer.{Answer}
+use Rattle.answers.specs.declared.Answer.{Answer}
 use Rattle.pack.specs.declared.Fault.{Fault}
-use Rattle.slips.specs.Answers.{refused, taken}
+use Rattle.answers.specs.Answers.{refused, taken}
 use Rattle.pack.specs.Pack.{rowsOf, tableFault}
 use Rattle.pack.specs.PackLaws.{fault-told, values-few, answer-faulty, answer-long, answer-entry, answer-many, answer-roomless, answer-taken}
 use borrow.Author.Needs.{needs}

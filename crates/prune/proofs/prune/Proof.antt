@@ -1,9 +1,9 @@
 use mathlib.Core.Path.{sym, ap, _∙_}
 use Rattle.sha2.specs.Sha256 as Sha256
 use Rattle.titles.specs.Compose.{composedText}
-use Rattle.slips.specs.declared.answer.Answer.{Answer}
+use Rattle.answers.specs.declared.Answer.{Answer}
 use Rattle.slips.specs.declared.header.Header.{Header}
-use Rattle.slips.specs.Answers.{refused}
+use Rattle.answers.specs.Answers.{refused}
 use Rattle.slips.specs.HeaderLaws.{header-told, check-refused}
 use Rattle.prune.specs.PruneCallLaws.{prune-refused}
 use borrow.Author.Needs.{needs}

@@ -9,7 +9,7 @@ use Rattle.trees.specs.Nodes.{label}
 use Rattle.outcomes.specs.Refusals.{accepted}
 use Rattle.sha2.specs.Sha256 as Sha256
 use Rattle.titles.specs.Compose.{composedText}
-use Rattle.slips.specs.declared.answer.Answer.{Answer}
+use Rattle.answers.specs.declared.Answer.{Answer}
 use Rattle.slips.specs.Check.{countOf, checkOf}
 use Rattle.slips.specs.HeaderLaws.{check-body}
 use Rattle.slips.specs.SlipTree.{slipTree}

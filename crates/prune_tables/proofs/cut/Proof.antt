@@ -2,7 +2,7 @@ use mathlib.Core.Path.{ap, _∙_}
 use native.Mathlib.Omega.{arith}
 use Rattle.outcomes.specs.Refusals.{badList}
 use Rattle.sha2.specs.Sha256 as Sha256
-use Rattle.slips.specs.Answers.{refused}
+use Rattle.answers.specs.Answers.{refused}
 use Rattle.prune_tables.specs.CutLaws.{packs-as, fault-none, list-faulty, list-clean}
 use borrow.Author.Needs.{needs}
 use Rattle.prune_tables.proofs.cut.Statement.{statement}

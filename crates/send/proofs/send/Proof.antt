@@ -6,7 +6,7 @@ use denote.Ref.{now}
 use lib.ListN.{length, drop}
 use Rattle.tables.specs.Tables.{entries}
 use Rattle.codec.specs.Writing.{slipOf}
-use Rattle.slips.specs.Answers.{taken}
+use Rattle.answers.specs.Answers.{taken}
 use Rattle.send.specs.SentLaws.{sent-roomless, sent-whole}
 use borrow.Author.Needs.{needs}
 use Rattle.send.proofs.send.Statement.{statement}

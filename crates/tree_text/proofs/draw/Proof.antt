@@ -1,7 +1,7 @@
 -- `tree_text::draw` answers what the check answers: the header's refusal, or what the rows are found to be.
 use mathlib.Core.Path.{sym, ap, _∙_}
 use Rattle.slips.specs.declared.header.Header.{Header}
-use Rattle.slips.specs.Answers.{refused}
+use Rattle.answers.specs.Answers.{refused}
 use Rattle.slips.specs.HeaderLaws.{header-read, check-refused, check-body}
 use borrow.Author.Needs.{needs}
 use Rattle.tree_text.proofs.draw.Statement.{statement}

@@ -10,8 +10,7 @@ use lib.Dec.{eqb}
 use lib.ListN.{length, take, drop, getD, length-take, length-drop}
 use Rattle.lists.specs.TestsLaws.{and-left, and-right}
 use Rattle.trees.specs.Nodes.{headBytes}
-use Rattle.trees.specs.Rules.{labelBytes}
-use Rattle.engine.specs.Engine.{noLabel}
+use Rattle.trees.specs.Rules.{labelBytes, noLabel}
 use Rattle.engine.specs.Judging.{SettledAsks}
 use Rattle.stack.specs.declared.Stack.{Stack}
 use Rattle.lists.specs.PartsLaws.{copied}

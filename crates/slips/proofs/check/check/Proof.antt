@@ -1,6 +1,6 @@
 use mathlib.Core.Path.{sym, ap, _∙_}
 use Rattle.slips.specs.declared.header.Header.{Header}
-use Rattle.slips.specs.Answers.{refused}
+use Rattle.answers.specs.Answers.{refused}
 use Rattle.slips.specs.HeaderLaws.{header-read, check-refused, check-body}
 use borrow.Author.Needs.{needs}
 use Rattle.slips.proofs.check.check.Statement.{statement}

@@ -2,8 +2,8 @@
 use Prim.Native.Nat.{ℕ}
 use mathlib.Core.List.{List}
 use Rattle.outcomes.specs.Refusals.{accepted}
-use Rattle.engine.specs.Engine.{noLabel}
-use Rattle.slips.specs.declared.answer.Answer.{Answer}
+use Rattle.trees.specs.Rules.{noLabel}
+use Rattle.answers.specs.declared.Answer.{Answer}
 
 -- a refusal by its number and place; "elsewhere the second number is 0", "side is 0 otherwise"
 abbrev pub refused : ℕ → ℕ → Answer

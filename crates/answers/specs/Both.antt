@@ -6,8 +6,8 @@ use lib.Dec.{eqb}
 use Rattle.outcomes.specs.Chain.{chain}
 use Rattle.lists.specs.Lists.{same}
 use Rattle.outcomes.specs.Refusals.{accepted, rootsDiffer}
-use Rattle.slips.specs.declared.answer.Answer.{Answer}
-use Rattle.slips.specs.Answers.{refused}
+use Rattle.answers.specs.declared.Answer.{Answer}
+use Rattle.answers.specs.Answers.{refused}
 
 -- the refusal of one of the two slips, and which
 abbrev pub sided : ℕ → Answer → Answer

@@ -6,9 +6,9 @@ use borrow.Author.Tests.{eq-eqb, ne-eqb, eqb-true, eqb-false, not-true, not-fals
 use lib.Dec.{eqb}
 use Rattle.lists.specs.Lists.{same}
 use Rattle.outcomes.specs.Refusals.{accepted, rootsDiffer}
-use Rattle.slips.specs.declared.answer.Answer.{Answer}
-use Rattle.slips.specs.Answers.{refused}
-use Rattle.both_slips.specs.Both.{sided, bothOf}
+use Rattle.answers.specs.declared.Answer.{Answer}
+use Rattle.answers.specs.Answers.{refused}
+use Rattle.answers.specs.Both.{sided, bothOf}
 
 module _ (a b : Answer) where
   pub both-first : (a .number ≡ accepted → ⊥) → sided 1 a ≡ bothOf a b
