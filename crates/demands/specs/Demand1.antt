@@ -45,7 +45,8 @@ use Rattle.prune_tables.specs.Pruned.{listTests, prunedOf}
 use Rattle.prune.specs.Prune.{slipTests, pruneOf}
 use Rattle.answers.specs.Both.{sided, bothTests}
 use Rattle.join_tables.specs.Joined.{tooLarge, largeTests, joinedOf}
-use Rattle.join.specs.Join.{leaving, joinOf}
+use Rattle.join_bodies.specs.Bodies.{leaving}
+use Rattle.join.specs.Join.{joinOf}
 use Rattle.demands.specs.InOrder.{Case, on, among, InOrder}
 use Rattle.demands.specs.InOrderLaws.{free, linked, onto, one-of, past}
 use Rattle.demands.specs.Refusals.{says, Stated, Refuses, StatedOutcome, OneTree, rowCases, listCases, headerCases, treeCase, roomCase, endCases, entryCase, entryCases, bodyCases, slipCases, unpackCases, formedCases, packCases, pruneCases, treesCases, joinCases, slipNumbers, unpackNumbers, packNumbers, pruneNumbers, joinNumbers}

@@ -1,6 +1,6 @@
 use borrow.Author.Tests.{le-leb, lt-leb}
-use Rattle.join.proofs.is_small.Statement.{statement}
-use Rattle.join.proofs.is_small.Tie as tie
+use Rattle.join_bodies.proofs.is_small.Statement.{statement}
+use Rattle.join_bodies.proofs.is_small.Tie as tie
 
 returns : tie.Need-returns
 returns c = rw (le-leb _ _ (c .if1 .taken))

@@ -4,18 +4,17 @@ use denote.Ref.{now}
 use lib.Seq.{length-take-le}
 use Rattle.answers.specs.declared.Answer.{Answer}
 use Rattle.slips.specs.SlipTree.{slipTree}
-use Rattle.join.proofs.Answering.{join-refused, join-merged}
+use Rattle.join_bodies.proofs.Answering.{join-refused, join-merged}
 use borrow.Author.Needs.{needs}
-use Rattle.join.proofs.join_in.Statement.{statement}
-use Rattle.join.proofs.join_in.Tie as tie
+use Rattle.join_bodies.proofs.join_in.Statement.{statement}
+use Rattle.join_bodies.proofs.join_in.Tie as tie
 
 hold-both-requires : tie.Need-hold-both-requires
 hold-both-requires c κs = c .before .before .before .before .before .before .before .before .before .before .before .before .before .pre .0
 
 returns : tie.Need-returns
 returns c =
-    let p = c .before .before .before .before .before .before .before .before .before .before .before .before .before .before .before .before .before .before .before .before .before .before .before .before .before .before .before .pre .0 in
-    join-refused _ _ _ _ _ (p .one .taken) (p .two .taken) (c .before .before .before .before .before .before .before .before .before .before .before .before .before .hold-both .ensures .answer) (c .before .if1 .taken)
+    join-refused _ _ _ _ _ (c .before .before .before .before .before .before .before .before .before .before .before .before .before .hold-both .ensures .answer) (c .before .if1 .taken)
 
 part : tie.Need-slice-reshare-prefix-merge
 part c = c .before .before .before .before .before .before .before .before .before .before .before .before .before .hold-both .ensures .tables (c .before .if1 .left) .types-room
@@ -47,10 +46,9 @@ merge-requires c κs =
 returns-2 : tie.Need-returns-2
 returns-2 c =
     let h = c .before .before .before .before .before .before .before .before .before .before .before .before .before .before .before .before .before .before .before .before .before .before .hold-both in
-    let p = c .before .before .before .before .before .before .before .before .before .before .before .before .before .before .before .before .before .before .before .before .before .before .before .before .before .before .before .before .before .before .before .before .before .before .before .before .pre .0 in
     let e = c .before .before .before .before .before .before .before .before .before .before .if1 .left in
     let t = h .ensures .tables e in
-    join-merged _ _ _ _ _ (p .one .taken) (p .two .taken) (ap (λ (a : Answer). a .number) (sym (h .ensures .answer)) ∙ e)
+    join-merged _ _ _ _ _ (ap (λ (a : Answer). a .number) (sym (h .ensures .answer)) ∙ e)
     (c .before .before .merge .ensures _ _ (t .two) (t .alike) (t .labelled))
 
 pub join-in-spec : {M : Type 1} → statement M
