@@ -4,84 +4,56 @@ mod calls;
 mod tally;
 mod task;
 
-use calls::answered;
-use tally::Tally;
-use task::Next;
-use task::Task;
-ghost use Prim.Native.Nat.{_<_};
+ghost use Prim.Native.Nat.{_≤_};
+ghost use lib.ListN.{length};
 
 // What an output holds before a task.
 const FILL: u8 = 165;
 
 fn main() {
+    let mut tally = [0u64; tally::CELLS];
+    run(&mut tally);
     let mut text = [0u8; pages::BYTES];
-    let at = tally::print(&mut text, run());
+    let at = tally::print(&tally, &mut text);
     pages::close(&text, at, b"call_bench");
 }
 
 // A proved loop ends: this one where the input does, or after more turns than any run takes.
-fn run() -> Tally {
+fn run(tally: &mut [u64; tally::CELLS]) {
     let mut given = [0u8; task::GIVEN];
     let mut names = [0u16; task::NAMES];
     let mut out = [0u8; task::ROOM];
-    let mut tally = Tally::new();
     let mut turns = u64::MAX;
     while 0 < turns {
-        let Next::Is(t) = task::announced() else {
-            return tally;
-        };
-        tally = done(t, &mut given, &mut names, &mut out, tally);
+        if !task::read(&mut given) {
+            break;
+        }
+        task::name(&given, &mut names);
+        done(&given, &names, &mut out, tally);
         turns -= 1;
     }
-    tally
 }
 
-// Reads a task's two parts, and does it.
-fn done(
-    t: Task,
-    given: &mut [u8; task::GIVEN],
-    names: &mut [u16; task::NAMES],
-    out: &mut [u8; task::ROOM],
-    tally: Tally,
-) -> Tally {
-    let n = wide(t.first);
-    let m = n + wide(t.second);
-    task::read(given, m);
-    let k = task::names(parts::bytes(given, n, m), names);
-    summed(t, given, parts::cells(names, 0, k), out, tally)
+// Tallies a task's answers and what stands in its output behind the last of them.
+fn done(given: &[u8], names: &[u16; task::NAMES], out: &mut [u8], tally: &mut [u64; tally::CELLS]) {
+    let room = filled(out, parts::sixteen(given, task::OUTPUT));
+    let mut left = parts::sixteen(given, task::TIMES);
+    while 0 < left {
+        tally::answer(tally, calls::answered(given, names, &mut out[..room]));
+        left -= 1;
+    }
+    tally::bytes(tally, parts::bytes(out, 0, room));
 }
 
-// The tally with a task's answers and with what stands in its output behind the last of them.
-fn summed(t: Task, given: &[u8], list: &[u16], out: &mut [u8], tally: Tally) -> Tally {
-    let n = wide(t.first);
-    let s = parts::bytes(given, 0, n);
-    let u = parts::bytes(given, n, n + wide(t.second));
-    let room = parts::byte_room(out, wide(t.room));
-    let all = repeated(t, s, u, list, &mut out[..room], tally);
-    all.with_bytes(parts::bytes(out, 0, room))
-}
-
-fn fill(out: &mut [u8]) {
+// Fills the front of an area, and answers how much of it.
+fn filled(out: &mut [u8], asked: usize) -> usize
+    ensures { λ r. ⌜ r ≤ length (now (out .exit)) ⌝ }
+{
+    let room = parts::byte_room(out, asked);
     let mut i = 0;
-    while i < out.len() {
+    while i < room {
         out[i] = FILL;
         i += 1;
     }
-}
-
-fn repeated(t: Task, s: &[u8], u: &[u8], list: &[u16], out: &mut [u8], tally: Tally) -> Tally {
-    fill(out);
-    let mut all = tally;
-    let mut i = 0;
-    while i < t.times {
-        all = all.with(answered(t.call, s, u, list, out));
-        i += 1;
-    }
-    all
-}
-
-fn wide(n: u16) -> usize
-    ensures { λ r. ⌜ r < 65536 ⌝ }
-{
-    n as usize
+    room
 }

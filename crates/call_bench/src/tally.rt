@@ -2,82 +2,84 @@
 // second sums the first as it grows, so that the order counts too.
 use answers::Answer;
 use std::num;
+ghost use Prim.Native.Nat.{_<_};
 
-pub struct Tally {
-    pub accepted: u64,
-    pub refused: u64,
-    pub sum: u64,
-    pub sums: u64,
+// Accepted, refused, and the two sums.
+pub const CELLS: usize = 4;
+
+const SUM: usize = 2;
+
+const SUMS: usize = 3;
+
+// Adds an answer.
+pub fn answer(tally: &mut [u64; CELLS], a: Answer) {
+    let label = a.label;
+    bytes(tally, &label);
+    numbers(
+        tally,
+        [a.number, a.place, a.second, a.side, a.length, a.blocks],
+    );
+    add(tally, cell(a.number), 1);
 }
 
-impl Tally {
-    pub fn new() -> Self {
-        Tally {
-            accepted: 0,
-            refused: 0,
-            sum: 0,
-            sums: 0,
-        }
-    }
+// Where an answer with a number is counted.
+fn cell(number: usize) -> usize
+    ensures { λ r. ⌜ r < 2 ⌝ }
+{
+    if number == 0 { 0 } else { 1 }
+}
 
-    // The same with one answer more.
-    pub fn with(self, a: Answer) -> Self {
-        let label = a.label;
-        let numbers = [a.number, a.place, a.second, a.side, a.length, a.blocks];
-        self.with_bytes(&label)
-            .with_numbers(numbers)
-            .counted(a.number)
+// Adds bytes to the sums, which are kept beside the tally meanwhile: an output has 65,535 bytes.
+pub fn bytes(tally: &mut [u64; CELLS], part: &[u8]) {
+    let mut sum = tally[SUM];
+    let mut sums = tally[SUMS];
+    let mut i = 0;
+    while i < part.len() {
+        sum = num::wrapping_add_u64(sum, wide(part[i]));
+        sums = num::wrapping_add_u64(sums, sum);
+        i += 1;
     }
+    tally[SUM] = sum;
+    tally[SUMS] = sums;
+}
 
-    fn counted(self, number: usize) -> Self {
-        let accepted = (number == 0) as u64;
-        let refused = (number != 0) as u64;
-        Tally {
-            accepted: num::wrapping_add_u64(self.accepted, accepted),
-            refused: num::wrapping_add_u64(self.refused, refused),
-            sum: self.sum,
-            sums: self.sums,
-        }
+fn numbers(tally: &mut [u64; CELLS], some: [usize; 6]) {
+    let mut i = 0;
+    while i < 6 {
+        grow(tally, some[i] as u64);
+        i += 1;
     }
+}
 
-    // The same with the sums grown by some bytes.
-    pub fn with_bytes(self, bytes: &[u8]) -> Self {
-        let mut all = self;
-        let mut i = 0;
-        while i < bytes.len() {
-            all = all.grown(wide(bytes[i]));
-            i += 1;
-        }
-        all
-    }
+fn grow(tally: &mut [u64; CELLS], n: u64) {
+    let sum = add(tally, SUM, n);
+    add(tally, SUMS, sum);
+}
 
-    fn with_numbers(self, numbers: [usize; 6]) -> Self {
-        let mut all = self;
-        let mut i = 0;
-        while i < 6 {
-            all = all.grown(numbers[i] as u64);
-            i += 1;
-        }
-        all
-    }
-
-    fn grown(self, n: u64) -> Self {
-        let sum = num::wrapping_add_u64(self.sum, n);
-        Tally {
-            accepted: self.accepted,
-            refused: self.refused,
-            sum,
-            sums: num::wrapping_add_u64(self.sums, sum),
-        }
-    }
+// Adds to one cell, and answers what it is then.
+fn add(tally: &mut [u64; CELLS], k: usize, n: u64) -> u64
+    requires { ⌜ k < 4 ⌝ }
+{
+    let all = num::wrapping_add_u64(tally[k], n);
+    tally[k] = all;
+    all
 }
 
 fn wide(b: u8) -> u64 {
     b as u64
 }
 
-pub fn print(text: &mut [u8; pages::BYTES], t: Tally) -> usize {
-    let counts = [t.accepted as usize, t.refused as usize, t.sum as usize];
-    let at = pages::numbered(text, 0, b"@ @ @ ", counts);
-    pages::numbered(text, at, b"@\n", [t.sums as usize, 0, 0])
+pub fn print(tally: &[u64; CELLS], text: &mut [u8; pages::BYTES]) -> usize {
+    let mut at = 0;
+    let mut i = 0;
+    while i < CELLS {
+        at = pages::decimal(text, at, tally[i] as usize);
+        at = pages::byte(text, at, behind(i));
+        i += 1;
+    }
+    at
+}
+
+fn behind(i: usize) -> u8 {
+    if i < SUMS { b' ' } else { b'\n' }
 }

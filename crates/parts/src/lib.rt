@@ -1,9 +1,11 @@
 // Parts of an area of bytes or of cells.
 pub mod words;
 
+ghost use mathlib.Core.Path.{_≡_};
 ghost use Prim.Native.Nat.{_≤_, _<_};
 ghost use lib.ListN.{length};
 ghost use Rattle.io.specs.Counts.{Counts};
+ghost use Rattle.parts.specs.Sixteen.{Sixteen};
 
 // From one place up to another; nothing where those are not in order, or past the area's end.
 pub fn bytes(area: &[u8], from: usize, to: usize) -> &[u8] {
@@ -35,6 +37,22 @@ fn wide(cell: u16) -> usize
     ensures { λ r. ⌜ r < 65536 ⌝ }
 {
     cell as usize
+}
+
+// The k-th number of 16 bits, the more significant byte first; 0 past the last whole one.
+pub fn sixteen(area: &[u8], k: usize) -> usize
+    ensures { λ r. ⌜ Sixteen (now (area .entry)) k r × (r < 65536) ⌝ }
+{
+    if k < area.len() / 2 {
+        return octet(area[2 * k]) * 256 + octet(area[2 * k + 1]);
+    }
+    0
+}
+
+fn octet(b: u8) -> usize
+    ensures { λ r. ⌜ (r ≡ b) × (r < 256) ⌝ }
+{
+    b as usize
 }
 
 // Where a part of n bytes ends that starts at `at`: not behind the area's end.
