@@ -5,33 +5,38 @@ use titles::Title;
 ghost use Prim.Native.Nat.{_<_};
 
 pub fn complain(text: &mut [u8; pages::BYTES], line: usize, title: &[u8], r: Composed) {
-    let at = begun(text, line, r);
-    let end = reason(text, at, title, r);
+    let at = begun(text, line, r.number, r.place);
+    let end = reason(text, at, title, r.number, r.place);
     let to = pages::byte(text, end, b'\n');
     pages::complain(text, to);
 }
 
-fn begun(text: &mut [u8; pages::BYTES], line: usize, r: Composed) -> usize {
-    pages::numbered(
-        text,
-        0,
-        b"line @: refused @ at @: ",
-        [line, r.number, r.place],
-    )
+fn begun(text: &mut [u8; pages::BYTES], line: usize, number: usize, place: usize) -> usize {
+    pages::numbered(text, 0, b"line @: refused @ at @: ", [line, number, place])
 }
 
-fn reason(text: &mut [u8; pages::BYTES], at: usize, title: &[u8], r: Composed) -> usize {
-    if r.number == Refusal::TITLE_LONG {
+fn reason(
+    text: &mut [u8; pages::BYTES],
+    at: usize,
+    title: &[u8],
+    number: usize,
+    place: usize,
+) -> usize {
+    if number == Refusal::TITLE_LONG {
         return long(text, at);
     }
-    if r.number == Refusal::NOT_UTF8 {
-        return ill(text, at, title, r.place);
+    if number == Refusal::NOT_UTF8 {
+        return ill(text, at, title, place);
     }
-    let to = code(text, at, character(title, r.place));
-    if r.number == Refusal::LOOSE_MARK {
-        return pages::word(text, to, b" is a mark without a letter that takes it");
-    }
-    pages::word(text, to, b" is outside the repertoire")
+    let to = code(text, at, utf8::character(title, place));
+    outside(text, to, number)
+}
+
+// What is wrong with a character of the title.
+fn outside(text: &mut [u8; pages::BYTES], at: usize, number: usize) -> usize {
+    let k = (number != Refusal::LOOSE_MARK) as usize;
+    let lines = b" is a mark without a letter that takes it\n is outside the repertoire";
+    pages::word(text, at, parts::words::line(lines, k))
 }
 
 fn long(text: &mut [u8; pages::BYTES], at: usize) -> usize {
@@ -41,13 +46,6 @@ fn long(text: &mut [u8; pages::BYTES], at: usize) -> usize {
 fn ill(text: &mut [u8; pages::BYTES], at: usize, title: &[u8], place: usize) -> usize {
     let byte = parts::bytes(title, place, parts::end(title, place, 1));
     pages::form(text, at, b"not UTF-8: byte %", [0, 0, 0], byte)
-}
-
-fn character(title: &[u8], place: usize) -> u32 {
-    if title.len() < place {
-        return utf8::ILL;
-    }
-    utf8::first(title, place)
 }
 
 // A character's number: `U+` and four hex digits, or as many as it takes.

@@ -4,7 +4,7 @@ ghost use Prim.Native.Nat.{_+_, _≤_, _<_};
 ghost use mathlib.Core.List.{_++_};
 ghost use lib.ListN.{length, take, drop, getD};
 ghost use Rattle.unicode.specs.Utf8.{low, high, twoBytes, threeBytes, fourBytes, front, encode};
-ghost use Rattle.utf8.specs.Answers.{Tested};
+ghost use Rattle.utf8.specs.Answers.{Tested, At};
 
 // What stands for an ill-formed sequence: one past the last code point.
 pub const ILL: u32 = 0x11_0000;
@@ -109,6 +109,16 @@ pub fn first(s: &[u8], at: usize) -> u32
         return three(a, b, c);
     }
     four(a, b, c, byte(s, at + 3))
+}
+
+// The same at any place: past the end of the text there is none.
+pub fn character(s: &[u8], at: usize) -> u32
+    ensures { λ r. ⌜ At (now (s .entry)) at r ⌝ }
+{
+    if s.len() < at {
+        return ILL;
+    }
+    first(s, at)
 }
 
 // The width of a character of the repertoire.
