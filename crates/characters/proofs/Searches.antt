@@ -9,7 +9,7 @@ use lib.ListN.{length, getD, drop, drop-of-length-le}
 use Rattle.lists.specs.PartsLaws.{next-cons}
 use Rattle.unicode.specs.Repertoire.{member}
 use Rattle.unicode.specs.Pairs.{Pair, pair, found, flat, pairs}
-use Rattle.characters.specs.Answers.{sought}
+use Rattle.characters.specs.Contracts.{sought}
 
 pub member-next : (s : List ℕ) (i c : ℕ) → i < length s → member (drop i s) c ≡ (eqb (getD s i 0) c || member (drop (i + 1) s) c)
 unfolding member

@@ -1,1 +1,2 @@
-pub mod Answers
+-- What the search of a pair gives.
+pub mod Contracts

@@ -5,7 +5,7 @@ ghost use Prim.Native.Nat.{_+_, _<_};
 ghost use lib.Dec.{eqb};
 ghost use lib.ListN.{length, getD};
 ghost use Rattle.unicode.specs.Pairs.{flat, pairs};
-ghost use Rattle.characters.specs.Answers.{Start};
+ghost use Rattle.characters.specs.Contracts.{Start};
 ghost use Rattle.unicode.specs.Joining.{joined};
 
 // Letter, mark and composed letter, row after row: by mark, then by letter. `tools/tables code` prints it.

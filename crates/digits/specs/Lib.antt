@@ -1,3 +1,4 @@
--- What digits spell, and its laws.
+-- What digits spell.
 pub mod Digits
+-- Laws:
 pub mod DigitsLaws

@@ -1,1 +1,2 @@
+-- What a number of 16 bits is.
 pub mod Sixteen

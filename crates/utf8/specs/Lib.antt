@@ -1,1 +1,2 @@
-pub mod Answers
+-- What the tests of bytes and the reading at a place give.
+pub mod Contracts

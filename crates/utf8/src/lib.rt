@@ -4,7 +4,7 @@ ghost use Prim.Native.Nat.{_+_, _≤_, _<_};
 ghost use mathlib.Core.List.{_++_};
 ghost use lib.ListN.{length, take, drop, getD};
 ghost use Rattle.unicode.specs.Utf8.{low, high, twoBytes, threeBytes, fourBytes, front, encode};
-ghost use Rattle.utf8.specs.Answers.{Tested, At};
+ghost use Rattle.utf8.specs.Contracts.{Tested, At};
 
 // What stands for an ill-formed sequence: one past the last code point.
 pub const ILL: u32 = 0x11_0000;

@@ -5,7 +5,7 @@ use native.Mathlib.Omega.{arith}
 use borrow.Author.Needs.{needs}
 use lib.ListN.{length, drop}
 use Rattle.unicode.specs.Joining.{joined}
-use Rattle.characters.specs.Answers.{sought}
+use Rattle.characters.specs.Contracts.{sought}
 use Rattle.characters.proofs.Searches.{sought-next, sought-end, rows}
 use Rattle.characters.proofs.pairs.composite.Statement.{statement}
 use Rattle.characters.proofs.pairs.composite.Tie as tie

@@ -3,7 +3,7 @@ use mathlib.Core.Path.{refl}
 use native.Mathlib.Omega.{arith}
 use Rattle.unicode.specs.Pairs.{found, flat, pairs}
 use Rattle.unicode.specs.Joining.{joined}
-use Rattle.characters.specs.Answers.{sought}
+use Rattle.characters.specs.Contracts.{sought}
 use Rattle.characters.proofs.Searches.{sought-flat, rows}
 use Rattle.characters.proofs.pairs.start.Statement.{statement}
 use Rattle.characters.proofs.pairs.start.Tie as tie
