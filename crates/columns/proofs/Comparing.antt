@@ -93,4 +93,4 @@ module _ (counts lengths values labels offsets : List ℕ) (x : ℕ) where
 pub ready-labelled : {types counts lengths values labels starts offsets : List ℕ} → Walkable types counts lengths values labels starts offsets
     → (x : ℕ) → x < length types → LabelAsks counts lengths values labels offsets x
 ready-labelled r x h =
-    record { has-count = omega arith; has-length = omega arith; has-offset = omega arith; inside = r .inside x h; inside-labels = omega arith }
+    record { has-count = omega arith; has-length = omega arith; has-offset = omega arith; inside = r .placed .inside x h; inside-labels = omega arith }

@@ -69,12 +69,16 @@ pub record LabelAsks (counts lengths values labels offsets : List ℕ) (x : ℕ)
   pub inside : getD offsets x 0 + getD lengths x 0 ≤ length values
   pub inside-labels : labelBytes * x + labelBytes ≤ length labels
 
--- columns that can be walked: every row has a cell in each, and its label lies inside its area
-pub record Walkable (types counts lengths values labels starts offsets : List ℕ) : Type 0 where
+-- every row has a cell in each column, and its part of the area
+pub record Placed (types counts lengths values offsets : List ℕ) : Type 0 where
   pub counts-long : length counts ≡ length types
   pub lengths-long : length lengths ≡ length types
-  pub starts-long : length starts ≡ length types
   pub offsets-long : length offsets ≡ length types
+  pub inside : (x : ℕ) → x < length types → getD offsets x 0 + getD lengths x 0 ≤ length values
+
+-- columns that can be walked: every row has its start too, and its label
+pub record Walkable (types counts lengths values labels starts offsets : List ℕ) : Type 0 where
+  pub placed : Placed types counts lengths values offsets
+  pub starts-long : length starts ≡ length types
   pub labels-room : labelBytes * length types ≤ length labels
   pub starts-low : (x : ℕ) → x < length types → getD starts x 0 ≤ x
-  pub inside : (x : ℕ) → x < length types → getD offsets x 0 + getD lengths x 0 ≤ length values

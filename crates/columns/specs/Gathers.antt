@@ -1,13 +1,13 @@
 -- The table that a plan names.
 use mathlib.Core.Path.{_≡_}
 use mathlib.Core.List.{List, map}
-use Prim.Native.Nat.{ℕ, _+_, _≤_, _<_}
+use Prim.Native.Nat.{ℕ, _≤_, _<_}
 use lib.ListN.{length, take, getD}
 use Rattle.lists.specs.Lists.{concat}
 use Rattle.trees.specs.Rules.{maxNodes}
 use Rattle.tables.specs.Tables.{sum}
 use Rattle.columns.specs.declared.gather.Gathered.{Gathered}
-use Rattle.columns.specs.Columns.{valueAt}
+use Rattle.columns.specs.Columns.{valueAt, Placed}
 
 -- a cell of a column
 abbrev pub cellOf : List ℕ → ℕ → ℕ
@@ -21,10 +21,7 @@ InRange plan n = (k : ℕ) → k < length plan → getD plan k 0 < n
 pub record Gatherable (plan types counts lengths values offsets : List ℕ) : Type 0 where
   pub few : length plan ≤ maxNodes
   pub in-range : InRange plan (length types)
-  pub counts-long : length counts ≡ length types
-  pub lengths-long : length lengths ≡ length types
-  pub offsets-long : length offsets ≡ length types
-  pub inside : (x : ℕ) → x < length types → getD offsets x 0 + getD lengths x 0 ≤ length values
+  pub placed : Placed types counts lengths values offsets
 
 -- and room for what it names
 pub record GatherAsks (plan types counts lengths values offsets outTypes outCounts outLengths outValues : List ℕ) : Type 0 where

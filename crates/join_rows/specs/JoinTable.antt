@@ -95,8 +95,5 @@ module _ (H : List ℕ → List ℕ) (a b : Node) (first : ℕ) (types counts le
       record {
         few = few;
         in-range = subst (InRange plan) (all-faces H a b first types counts lengths values labels h) (names-in-range both plan (faces H c) names);
-        counts-long = ready .counts-long;
-        lengths-long = ready .lengths-long;
-        offsets-long = ready .offsets-long;
-        inside = ready .inside;
+        placed = ready .placed;
       }

@@ -95,15 +95,18 @@ module _ (H : List ℕ → List ℕ) (a b : Node) (first : ℕ) (types counts le
     pub two-ready : Walkable types counts lengths values labels starts offsets
     two-ready =
         record {
-          counts-long = counts-long;
-          lengths-long = lengths-long;
+          placed =
+              record {
+                counts-long = counts-long;
+                lengths-long = lengths-long;
+                offsets-long = g .offsets-long ∙ counts-long;
+                inside = λ x q.
+                    omega (arith, g .offsets-are x (omega (arith, counts-long)), sum-part lengths x (omega (arith, lengths-long)), values-room);
+              };
           starts-long = g .starts-long ∙ counts-long;
-          offsets-long = g .offsets-long ∙ counts-long;
           labels-room =
               omega (arith, h .two .labels-room, length-drop first types, length-drop (labelBytes * first) labels, first-low);
           starts-low = λ x q. g .started .low x (omega (arith, counts-long));
-          inside = λ x q.
-              omega (arith, g .offsets-are x (omega (arith, counts-long)), sum-part lengths x (omega (arith, lengths-long)), values-room);
         }
 
     pub two-reads : Reads H (faces H a ++ faces H b) types counts lengths values labels starts offsets
