@@ -46,6 +46,21 @@ pub fn taken(length: usize, blocks: usize, root: [u8; Slip::LABEL_BYTES]) -> Ans
     }
 }
 
+// A clash, by its entry number in each slip.
+pub fn clashed(first: usize, second: usize) -> Answer
+    ensures { λ r. ⌜ r ≡ Answers.clashed first second ⌝ }
+{
+    Answer {
+        number: Refusal::CLASHING,
+        place: first,
+        second,
+        side: 0,
+        length: 0,
+        blocks: 0,
+        label: [0u8; Slip::LABEL_BYTES],
+    }
+}
+
 // A slip's refusal, and which slip it is.
 pub fn sided(side: usize, a: Answer) -> Answer
     ensures { λ r. ⌜ r ≡ Both.sided side a ⌝ }

@@ -26,7 +26,7 @@ use Rattle.slips.specs.SlipTrees.{check-complete}
 use Rattle.slips.specs.SlipTree.{slipTree}
 use Rattle.slips.specs.SlipTreeLaws.{slip-tree}
 use Rattle.prune.specs.PruneTheorems.{PrunesTo, le-prunes}
-use Rattle.join_tables.specs.Joined.{clashed}
+use Rattle.answers.specs.Answers.{clashed}
 use Rattle.demands.specs.Library.{Arrival, start, Reached, misfits, clashes, ever, Ours, copy, Shown, Same}
 use Rattle.demands.specs.LibraryLaws.{ever-there, read, fits, Stands, stepped, stands-bare, stands-run, misfit-run, clash-run, read-ours, read-roots, got-from, got-reached}
 

@@ -18,7 +18,7 @@ use Rattle.slips.specs.Check.{checkOf}
 use Rattle.outcomes.specs.Outcome.{Output}
 use Rattle.answers.specs.declared.Answer.{Answer}
 use Rattle.slips.specs.SlipTree.{slipTree}
-use Rattle.join_tables.specs.Joined.{clashed}
+use Rattle.answers.specs.Answers.{clashed}
 use Rattle.join.specs.Join.{joinOf}
 
 -- what arrives: any bytes, and the buffer lent for the join

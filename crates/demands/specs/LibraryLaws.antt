@@ -28,7 +28,7 @@ use Rattle.codec.specs.Writing.{entryBits, allBits, slipOf}
 use Rattle.codec.specs.MeasureLaws.{dangling-long, slip-bits-long, slip-bytes-long}
 use Rattle.codec.specs.SlipLaws.{below-slipOf}
 use Rattle.answers.specs.declared.Answer.{Answer}
-use Rattle.answers.specs.Answers.{refused, taken}
+use Rattle.answers.specs.Answers.{refused, taken, clashed}
 use Rattle.slips.specs.Check.{checkOf}
 use Rattle.outcomes.specs.Outcome.{over, Output, still}
 use Rattle.slips.specs.SlipTrees.{SlipOf, check-complete, check-unique}
@@ -37,7 +37,7 @@ use Rattle.slips.specs.SlipTreeLaws.{slip-tree}
 use Rattle.send.specs.Sent.{sent}
 use Rattle.slips.specs.ByteTrees.{tree-slip, accepted-slip}
 use Rattle.answers.specs.Both.{sided}
-use Rattle.join_tables.specs.Joined.{clashed, tooLarge}
+use Rattle.join_tables.specs.Joined.{tooLarge}
 use Rattle.join.specs.JoinTheorems.{Goes, first, second, differ, clashes, large, joins, join-goes}
 use Rattle.demands.specs.Library.{Arrival, start, Reached, misfits, keeps, outcome, after, kept, ever, Ours}
 use Rattle.demands.specs.Library as Library

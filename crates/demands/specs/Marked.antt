@@ -12,10 +12,10 @@ use Rattle.codec.specs.Writing.{leafBits, entryBits, allBits, slipBits, slipOf}
 use Rattle.outcomes.specs.Outcome.{still}
 use Rattle.titles.specs.Compose.{composeOf, refusal, acceptedWith}
 use Rattle.titles.specs.Cases.{loose, whole, loose-composes, whole-itself, empty-empty, mark-alone, second-mark, cut-short, control}
-use Rattle.answers.specs.Answers.{refused, taken}
+use Rattle.answers.specs.Answers.{refused, taken, clashed}
 use Rattle.slips.specs.Check.{paddingFits, settled, headerOf, bodyOf, checkOf}
 use Rattle.slips.specs.Cases.{bare, bare-accepted, bare-padding-set, bare-cut, no-nodes, other-edition, no-bytes}
-use Rattle.join_tables.specs.Joined.{clashed, joinedOf}
+use Rattle.join_tables.specs.Joined.{joinedOf}
 use Rattle.join.specs.Join.{joinOf}
 use Rattle.trees.specs.Examples.{lengthLabel}
 

@@ -19,7 +19,7 @@ use Rattle.trees.specs.JoinAlgebra.{join-idem, join-comm}
 use Rattle.trees.specs.Rows.{rows, number}
 use Rattle.outcomes.specs.Refusals.{accepted, rootsDiffer, joinTooLarge}
 use Rattle.codec.specs.Writing.{slipOf}
-use Rattle.answers.specs.Answers.{refused}
+use Rattle.answers.specs.Answers.{refused, clashed}
 use Rattle.slips.specs.Check.{checkOf}
 use Rattle.outcomes.specs.Outcome.{over, Output, still}
 use Rattle.answers.specs.declared.Answer.{Answer}
@@ -29,7 +29,7 @@ use Rattle.slips.specs.SlipTreeLaws.{slip-tree}
 use Rattle.send.specs.Sent.{sent, sentTree}
 use Rattle.slips.specs.ByteTrees.{OfBytes, proper-bytes, tree-slip, accepted-slip}
 use Rattle.answers.specs.Both.{sided}
-use Rattle.join_tables.specs.Joined.{clashed, tooLarge, joinedOf}
+use Rattle.join_tables.specs.Joined.{tooLarge, joinedOf}
 use Rattle.join.specs.Join.{joinOf}
 
 module _ (H : List ℕ → List ℕ) (composed : List ℕ → Bool) where

@@ -7,19 +7,15 @@ use lib.Dec.{ltb}
 use lib.ListN.{length}
 use Rattle.outcomes.specs.Chain.{chain}
 use Rattle.trees.specs.Nodes.{Node, size}
-use Rattle.trees.specs.Rules.{maxNodes, maxBytes, noLabel}
+use Rattle.trees.specs.Rules.{maxNodes, maxBytes}
 use Rattle.trees.specs.Join.{Joint, ok, clash}
 use Rattle.trees.specs.Rows.{rows, number}
-use Rattle.outcomes.specs.Refusals.{joinTooLarge, clashing}
+use Rattle.outcomes.specs.Refusals.{joinTooLarge}
 use Rattle.codec.specs.Writing.{slipOf}
 use Rattle.answers.specs.declared.Answer.{Answer}
-use Rattle.answers.specs.Answers.{refused}
+use Rattle.answers.specs.Answers.{refused, clashed}
 use Rattle.outcomes.specs.Outcome.{Output, still}
 use Rattle.send.specs.Sent.{sentTree}
-
--- "the two entry numbers for 14"
-abbrev pub clashed : ℕ → ℕ → Answer
-clashed i j = record { number = clashing; place = i; second = j; side = 0; length = 0; blocks = 0; label = noLabel }
 
 -- "join over 1,023 nodes or 32,768 bytes"
 abbrev pub tooLarge : Node → Bool

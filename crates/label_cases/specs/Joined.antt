@@ -9,12 +9,12 @@ use Rattle.unicode.specs.Repertoire.{member, marks, isMark, plain, allPlain}
 use Rattle.titles.specs.Compose.{composedText}
 use Rattle.codec.specs.Reading.{readValue, readLeaf, readRest, readOne, readAll}
 use Rattle.codec.specs.Writing.{leafBits, entryBits, allBits, slipBits, slipOf}
-use Rattle.answers.specs.Answers.{taken}
+use Rattle.answers.specs.Answers.{taken, clashed}
 use Rattle.slips.specs.Check.{paddingFits, settled, headerOf, bodyOf, checkOf}
 use Rattle.outcomes.specs.Outcome.{over, Output, still}
 use Rattle.answers.specs.declared.Answer.{Answer}
 use Rattle.send.specs.Sent.{sent}
-use Rattle.join_tables.specs.Joined.{clashed, joinedOf}
+use Rattle.join_tables.specs.Joined.{joinedOf}
 use Rattle.join.specs.Join.{joinOf}
 use Rattle.trees.specs.Examples.{lengthLabel}
 use Rattle.label_cases.specs.Values.{bytes, output}

@@ -26,9 +26,9 @@ use Rattle.columns.specs.Gathers.{cellOf, valuesOf}
 use Rattle.join_rows.specs.JoinTable.{planned-table, join-room, join-gathering}
 use Rattle.join_rows.specs.TwoLaws.{first-low, values-room}
 use Rattle.answers.specs.declared.Answer.{Answer}
-use Rattle.answers.specs.Answers.{refused}
+use Rattle.answers.specs.Answers.{refused, clashed}
 use Rattle.outcomes.specs.Outcome.{Leaves}
-use Rattle.join_tables.specs.Joined.{clashed, joinedOf}
+use Rattle.join_tables.specs.Joined.{joinedOf}
 use Rattle.join_tables.specs.Contracts.{fitted, HandOutAsks, MergeAsks}
 
 -- the cells that name the join's rows

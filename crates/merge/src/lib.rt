@@ -11,23 +11,7 @@ ghost use mathlib.Core.Path.{_≡_};
 ghost use Prim.Native.Nat.{_*_, _≤_};
 ghost use lib.ListN.{length};
 ghost use Rattle.tables.specs.Areas.{smallNodes};
-ghost use Rattle.join_tables.specs.Joined as Joined;
 ghost use Rattle.join_tables.specs.Contracts.{MergeAsks, MergeGives, PlanRoom};
-
-// A clash, by its entry number in each slip.
-fn clashed(first: usize, second: usize) -> Answer
-    ensures { λ r. ⌜ r ≡ Joined.clashed first second ⌝ }
-{
-    Answer {
-        number: Refusal::CLASHING,
-        place: first,
-        second,
-        side: 0,
-        length: 0,
-        blocks: 0,
-        label: [0u8; Slip::LABEL_BYTES],
-    }
-}
 
 // Plans the join in lent areas, and hands out its slip. The first `first` rows are the first tree's; `label` is that of both roots.
 fn merge_in<'a>(
@@ -59,7 +43,7 @@ fn merge_in<'a>(
         cells,
     );
     if p.clash {
-        return clashed(p.first, p.second);
+        return answers::clashed(p.first, p.second);
     }
     if Slip::MAX_NODES < p.rows {
         return answers::refused(Refusal::JOIN_TOO_LARGE, 0);
