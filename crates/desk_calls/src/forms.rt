@@ -27,16 +27,12 @@ pub fn unpack(
     let mut counts = [room::FILL_CELL; room::MOST];
     let mut lengths = [room::FILL_CELL; room::MOST];
     let mut values = [room::FILL; room::MOST];
-    let t = fields::number(cells, ends, 1);
-    let c = fields::number(cells, ends, 2);
-    let l = fields::number(cells, ends, 3);
-    let v = fields::number(cells, ends, 4);
     unpacked(
         fields::text(bytes, ends, 0),
-        &mut types[..t],
-        &mut counts[..c],
-        &mut lengths[..l],
-        &mut values[..v],
+        room::cells(&mut types, fields::number(cells, ends, 1)),
+        room::cells(&mut counts, fields::number(cells, ends, 2)),
+        room::cells(&mut lengths, fields::number(cells, ends, 3)),
+        room::bytes(&mut values, fields::number(cells, ends, 4)),
         text,
         at,
     )

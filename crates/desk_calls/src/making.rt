@@ -14,7 +14,7 @@ pub fn made(
 ) -> usize {
     let mut out = [room::FILL; room::MOST];
     let n = fields::number(cells, ends, last(call));
-    told(call, cells, bytes, ends, &mut out[..n], text, at)
+    told(call, cells, bytes, ends, room::bytes(&mut out, n), text, at)
 }
 
 // Which field has the room.
