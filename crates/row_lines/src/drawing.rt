@@ -3,7 +3,6 @@
 use crate::cutting;
 use crate::places;
 use crate::writing;
-use parts::words;
 use tables::areas::Full;
 use tables::limits::Slip;
 ghost use Prim.Native.Nat.{_≤_, _<_};
@@ -27,33 +26,36 @@ pub fn draw<'a>(
     let mut rows = [0u16; Slip::MAX_NODES];
     places::order(counts, n, &mut rows);
     let mut text = [0u8; pages::BYTES];
-    let mut to = 0;
-    let mut i = 0;
-    while i < n {
-        let row = wide(rows[i]);
-        to = line(
-            &mut text,
-            to,
-            n,
-            row,
-            types,
-            counts,
-            lengths,
-            values,
-            labels,
-        );
-        i += 1;
-    }
+    let to = lines(&mut text, n, &rows, types, counts, lengths, values, labels);
     pages::close(&text, to, b"desk");
 }
 
-fn wide(cell: u16) -> usize
-    ensures { λ r. ⌜ r < 65536 ⌝ }
+// The lines of n rows, in the order that they are drawn in; answers how many bytes stand on the page.
+fn lines<'a>(
+    text: &mut [u8; pages::BYTES],
+    n: usize,
+    rows: &[u16; Slip::MAX_NODES],
+    types: &[u16; Slip::MAX_NODES],
+    counts: &[u16; Slip::MAX_NODES],
+    lengths: &[u16; Slip::MAX_NODES],
+    values: &'a [u8; Slip::MAX_BYTES],
+    labels: &'a [u8; Full::LABELS],
+) -> usize
+    requires { ⌜ n ≤ maxNodes ⌝ }
 {
-    cell as usize
+    let mut to = 0;
+    let mut i = 0;
+    while i < n {
+        let row = cell(rows, i);
+        to = line(text, to, n, row, types, counts, lengths, values, labels);
+        i += 1;
+    }
+    to
 }
 
-fn cell(column: &[u16; Slip::MAX_NODES], row: usize) -> usize {
+fn cell(column: &[u16; Slip::MAX_NODES], row: usize) -> usize
+    ensures { λ r. ⌜ r < 65536 ⌝ }
+{
     parts::cell(column, row)
 }
 
@@ -150,34 +152,13 @@ fn told(
 ) -> usize {
     let n = cutting::cut(kind, value, cutting::room(row, depth, kind));
     let shape = shape(kind, count, value, n);
-    put(
+    writing::put(
         text,
         from,
         shape,
-        number(kind, count),
+        writing::number(kind, count),
         parts::bytes(value, 0, n),
     )
-}
-
-// The number in a node's line: how many children it has, or the type of a pair.
-fn number(kind: usize, count: usize) -> usize {
-    if 0 < count { count } else { kind }
-}
-
-// What a node is, by the number of its pattern.
-fn put(
-    text: &mut [u8; pages::BYTES],
-    from: usize,
-    shape: usize,
-    number: usize,
-    shown: &[u8],
-) -> usize {
-    let pattern = words::line(
-        b"inner @\ngone\npair @ %\npair @ %...\npair @ $\npair @ $...\n",
-        shape,
-    );
-    let to = pages::form(text, from, pattern, [number, 0, 0], shown);
-    pages::byte(text, to, b'\n')
 }
 
 // The pattern of a node of whose value n bytes are shown.

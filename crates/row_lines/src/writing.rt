@@ -31,40 +31,54 @@ fn line(
     count: usize,
     value: &[u8],
 ) -> usize {
-    if 0 < count {
-        return put(text, from, 0, count, value);
-    }
-    put(text, from, shape(kind, value), kind, value)
+    put(
+        text,
+        from,
+        shape(kind, count, value),
+        number(kind, count),
+        value,
+    )
 }
 
 pub fn pair(text: &mut [u8; pages::BYTES], from: usize, kind: usize, value: &[u8]) -> usize {
     put(text, from, paired(kind, value), kind, value)
 }
 
-// A row by the number of its pattern.
-fn put(
+// The number in a row's line: how many children it has, or the type of a pair.
+pub fn number(kind: usize, count: usize) -> usize {
+    if 0 < count { count } else { kind }
+}
+
+// A row by the number of its pattern: those of a tree, and then two that only the text has.
+pub fn put(
     text: &mut [u8; pages::BYTES],
     from: usize,
     shape: usize,
     number: usize,
     value: &[u8],
 ) -> usize {
-    let pattern = words::line(b"inner @\ngone %\npair @ %\npair @ % # $\n", shape);
+    let pattern = words::line(
+        b"inner @\ngone\npair @ %\npair @ %...\npair @ $\npair @ $...\ngone %\npair @ % # $\n",
+        shape,
+    );
     let to = pages::form(text, from, pattern, [number, 0, 0], value);
     pages::byte(text, to, b'\n')
 }
 
-// The pattern of a row without children.
-fn shape(kind: usize, value: &[u8]) -> usize {
+// The pattern of a row.
+fn shape(kind: usize, count: usize, value: &[u8]) -> usize {
+    if 0 < count {
+        return 0;
+    }
     if kind == 0 {
-        return 1;
+        return 6;
     }
     paired(kind, value)
 }
 
 // The pattern of a pair.
 fn paired(kind: usize, value: &[u8]) -> usize {
-    if legible(kind, value) { 3 } else { 2 }
+    if legible(kind, value) { 7 } else { 2 }
 }
 
 // Whether a value is shown as text as well: one of a type of text, and not empty.
