@@ -6,6 +6,8 @@ use native.Mathlib.Omega.{arith}
 use borrow.Rule.Slice.PartMut.{midOf, postOf, putMid, mid-len, post-is}
 use lib.ListN.{length, take, drop, length-take}
 use lib.Seq.{length-take-le, take-take, drop-at, take-at, drop-length}
+use mir.Syntax.{w64}
+use mir.Val.{Fits}
 use Rattle.lists.specs.PartsLaws.{drop-take}
 use Rattle.trees.specs.Nodes.{Node, label}
 use Rattle.trees.specs.Rules.{labelBytes}
@@ -39,6 +41,29 @@ part-long a xs = mid-len a (length xs) xs (omega arith)
 
 module _ {u : List ℕ} {m first used : ℕ} {types counts lengths values labels : List ℕ}
     (p : BehindAsks u m first used types counts lengths values labels) where
+  -- the parts begin within what they are of
+  pub types-in : first ≤ length types
+  types-in = omega (arith, p .types-room)
+
+  pub counts-in : first ≤ length counts
+  counts-in = omega (arith, p .counts-room)
+
+  pub lengths-in : first ≤ length lengths
+  lengths-in = omega (arith, p .lengths-room)
+
+  pub values-in : used ≤ length values
+  values-in = omega (arith, p .values-room)
+
+  pub labels-in : labelBytes * first ≤ length labels
+  labels-in = omega (arith, p .labels-room)
+
+  -- where they begin, counted in bytes, fits
+  pub cells-fit : Fits w64 (first * 2)
+  cells-fit = record { fits = omega (arith, p .low) }
+
+  pub labels-fit : Fits w64 (labelBytes * first)
+  labels-fit = record { fits = omega (arith, p .low) }
+
   -- the parts behind the first slip's are room enough
   pub behind-lent :
       OpenAsks u m (midOf first (length types - first) types) (midOf first (length counts - first) counts)
@@ -68,17 +93,12 @@ module _ {u : List ℕ} {m first used : ℕ} {types counts lengths values labels
       (putMid first (length lengths - first) lengths ls) (putMid used (length values - used) values vs)
       (putMid (labelBytes * first) (length labels - labelBytes * first) labels bs))
   behind-opens ts cs ls vs bs h kt kc kl kb =
-      let t : first ≤ length types = omega (arith, p .types-room) in
-      let c : first ≤ length counts = omega (arith, p .counts-room) in
-      let l : first ≤ length lengths = omega (arith, p .lengths-room) in
-      let v : used ≤ length values = omega (arith, p .values-room) in
-      let b : labelBytes * first ≤ length labels = omega (arith, p .labels-room) in
       record {
         opens =
-            rw (put-back first types ts t, put-back first counts cs c, put-back first lengths ls l, put-back used values vs v, put-back (labelBytes * first) labels bs b)
+            rw (put-back first types ts types-in, put-back first counts cs counts-in, put-back first lengths ls lengths-in, put-back used values vs values-in, put-back (labelBytes * first) labels bs labels-in)
             h;
         rooms =
-            rw (put-back first types ts t, put-back first counts cs c, put-back first lengths ls l, put-back (labelBytes * first) labels bs b)
+            rw (put-back first types ts types-in, put-back first counts cs counts-in, put-back first lengths ls lengths-in, put-back (labelBytes * first) labels bs labels-in)
             (record {
               few = omega (arith, p .is .counted, p .is .few);
               types-room = omega (arith, kt, part-long first types, p .is .counted, p .types-room);
@@ -86,11 +106,11 @@ module _ {u : List ℕ} {m first used : ℕ} {types counts lengths values labels
               lengths-room = omega (arith, kl, part-long first lengths, p .is .counted, p .lengths-room);
               labels-room = omega (arith, kb, part-long (labelBytes * first) labels, p .is .counted, p .labels-room);
             });
-        types-kept = put-front first types ts t;
-        counts-kept = put-front first counts cs c;
-        lengths-kept = put-front first lengths ls l;
-        values-kept = put-front used values vs v;
-        labels-kept = put-front (labelBytes * first) labels bs b;
+        types-kept = put-front first types ts types-in;
+        counts-kept = put-front first counts cs counts-in;
+        lengths-kept = put-front first lengths ls lengths-in;
+        values-kept = put-front used values vs values-in;
+        labels-kept = put-front (labelBytes * first) labels bs labels-in;
       }
 
 -- lists with one beginning
