@@ -4,7 +4,6 @@ use lib.ListN.{length}
 use Rattle.tables.specs.Tables.{table}
 use Rattle.handing.proofs.Copying.{Fits, fits-told, handed-lacking, handed-taken, copied-whole}
 use Rattle.handing.specs.HandingLaws.{handed-refused}
-use borrow.Author.Needs.{needs}
 use Rattle.handing.proofs.hand_out.Statement.{statement}
 use Rattle.handing.proofs.hand_out.Tie as tie
 
@@ -46,5 +45,8 @@ returns-3 c =
 pub hand-out-spec : {M : Type 1} → statement M
 hand-out-spec =
     tie.close
-    (tie.spec returns (λ c κs. search needs) (λ c κs. search needs) returns-2 copy-cells-requires copy-cells-requires-2 copy-cells-requires-3
-    copy-requires (λ c. search needs) (λ c. search needs) (λ c. search needs) (λ c. search needs) returns-3)
+    (tie.spec returns (λ c κs. tt) (λ c κs. tt) returns-2 copy-cells-requires copy-cells-requires-2 copy-cells-requires-3 copy-requires
+    (λ c. c .before .before .before .before .before .before .before .before .before .before .before .before .before .before .copy-cells .kept .1 .0)
+    (λ c. c .before .before .before .before .before .before .before .before .before .before .copy-cells2 .kept .1 .0)
+    (λ c. c .before .before .before .before .before .before .copy-cells3 .kept .1 .0)
+    (λ c. c .before .before .copy .kept .1 .0) returns-3)
