@@ -11,8 +11,7 @@ use Rattle.sha2.specs.Sha256 as Sha256
 use Rattle.titles.specs.Compose.{composedText}
 use Rattle.pack.specs.Pack.{packOf}
 use Rattle.pack.specs.PackRefusals.{pack-unfit, unfit-packs}
-use Rattle.lookup.specs.declared.held.Spot.the-variants.{Nothing}
-use Rattle.lookup.specs.Lookup.{heldIn}
+use Rattle.lookup.specs.Lookup.{Nothing, heldIn}
 use Rattle.lookup.specs.LookupLaws.{held-none, refused-none}
 
 module _ (kind : ℕ) (t : Table) (out : List ℕ) where

@@ -1,8 +1,7 @@
 // The static library: each public call under a plain name, for C and Rust. include/liwharoko.h declares them.
 use answers::Answer;
 use join::join;
-use lookup::held;
-use lookup::held::Spot;
+use lookup::finding;
 use lookup::holder;
 use prune::prune;
 use titles::Composed;
@@ -89,26 +88,21 @@ pub extern "C" fn liwharoko_find(
 ) -> Part
     ensures { λ r. ⌜ r ≡ partOf (lookup kind (table (now (types1 .entry)) (now (counts1 .entry)) (now (lengths1 .entry)) (now (values1 .entry))) (table (now (types2 .entry)) (now (counts2 .entry)) (now (lengths2 .entry)) (now (values2 .entry)))) ⌝ }
 {
-    let first = held::held_in(kind, types1, counts1, lengths1, values1);
-    if let Spot::At(start, size) = first {
-        return Part {
-            holder: 1,
-            start,
-            size,
-        };
-    }
-    let second = held::held_in(kind, types2, counts2, lengths2, values2);
-    if let Spot::At(start, size) = second {
-        return Part {
-            holder: 2,
-            start,
-            size,
-        };
-    }
+    let f = finding(
+        kind,
+        types1,
+        counts1,
+        lengths1,
+        values1,
+        types2,
+        counts2,
+        lengths2,
+        values2,
+    );
     Part {
-        holder: 0,
-        start: 0,
-        size: 0,
+        holder: f.holder,
+        start: f.start,
+        size: f.size,
     }
 }
 

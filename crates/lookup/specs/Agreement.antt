@@ -6,10 +6,8 @@ use native.Mathlib.Omega.{arith}
 use lib.ListN.{length}
 use denote.Ref.{RefT, ptr, now}
 use Rattle.tables.specs.Tables.{Table}
-use Rattle.lookup.specs.Lookup.{heldIn, lookup, areaOf, PartOf, Handed}
+use Rattle.lookup.specs.Lookup.{Spot, At, Nothing, heldIn, lookup, areaOf, PartOf, Handed}
 use Rattle.lookup.specs.LookupLaws.{held-within}
-use Rattle.lookup.specs.declared.held.Spot.{Spot}
-use Rattle.lookup.specs.declared.held.Spot.the-variants.{At, Nothing}
 
 -- what is found lies within its area, so the part has all of its bytes
 pub found-within :

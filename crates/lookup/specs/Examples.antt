@@ -4,7 +4,8 @@ use mathlib.Core.Path.{_≡_, refl}
 use mathlib.Core.List.{[], _∷_, _++_}
 use lib.ListN.{replicate, take, drop}
 use Rattle.tables.specs.Tables.{Table, table, columnsFit, rowFits, firstBad, sum, tableFits}
-use Rattle.lookup.specs.Lookup.{Finding, firstOf, heldIn, lookup}
+use Rattle.lookup.specs.Lookup.{firstOf, heldIn, lookup}
+use Rattle.lookup.specs.declared.held.Finding.{Finding}
 
 -- a salt of 32 bytes 7, raw values of the types 600 (8 9, then 10) and 601 (empty), under one root
 abbrev full : Table

@@ -8,8 +8,12 @@ use lib.Dec.{leb, eqb}
 use lib.ListN.{take, drop}
 use denote.Ref.{RefT, ptr, now}
 use Rattle.tables.specs.Tables.{Table, tableFits}
-use Rattle.lookup.specs.declared.held.Spot.{Spot}
-use Rattle.lookup.specs.declared.held.Spot.the-variants.{At, Nothing}
+use Rattle.lookup.specs.declared.held.Finding.{Finding}
+
+-- a part of a table's values area, by its start and size; or no part
+pub data Spot : Type 0 where
+  At : ℕ → ℕ → Spot
+  Nothing : Spot
 
 -- "the value of the first row of that type": its part of an area whose first row's value starts at `at`, the others' end to end behind it
 unfoldable pub firstOf : ℕ → ℕ → List ℕ → List ℕ → Spot
@@ -21,11 +25,10 @@ firstOf kind at (t ∷ ts) (l ∷ ls) = cond (eqb t kind) (At at l) (firstOf kin
 unfoldable pub heldIn : ℕ → Table → Spot
 heldIn kind t = cond (leb 1 kind && tableFits t) (firstOf kind 0 (t .types) (t .lengths)) Nothing
 
--- which record has it, and the part of that record's area
-pub record Finding : Type 0 where
-  pub holder : ℕ
-  pub start : ℕ
-  pub size : ℕ
+-- what is held by the record of that number
+abbrev pub heldBy : ℕ → Spot → Finding
+heldBy h (At a n) = record { holder = h; start = a; size = n }
+heldBy h Nothing = record { holder = 0; start = 0; size = 0 }
 
 -- "of the first record's value area, or else of the second's"; "Nothing found: the empty part at the start of the first area."
 abbrev pub orElse : Spot → Spot → Finding

@@ -12,9 +12,7 @@ use Rattle.trees.specs.Rows.{Entry, tip}
 use Rattle.lists.specs.TestsLaws.{and-left, and-right}
 use Rattle.tables.specs.Tables.{Table, tableFits, entries, sum, Formed}
 use Rattle.tables.specs.TablesLaws.{table-told, fits-cases, formed-row, sum-part, entries-at}
-use Rattle.lookup.specs.Lookup.{firstOf, heldIn}
-use Rattle.lookup.specs.declared.held.Spot.{Spot}
-use Rattle.lookup.specs.declared.held.Spot.the-variants.{At, Nothing}
+use Rattle.lookup.specs.Lookup.{Spot, At, Nothing, firstOf, heldIn}
 
 -- a spot is a part or nothing, and never both
 never : (a n : ℕ) → _≡_ {A = Spot} Nothing (At a n) → ⊥

@@ -4,18 +4,17 @@ use native.Mathlib.Omega.{arith}
 use lib.ListN.{length, drop}
 use denote.Ref.{now}
 use borrow.Author.Needs.{needs}
-use Rattle.lookup.specs.Lookup.{firstOf}
-use Rattle.lookup.specs.declared.held.Spot.the-variants.{At}
+use Rattle.lookup.specs.Lookup.{At, firstOf, heldBy}
 use Rattle.lookup.proofs.Rows.{first-here, first-later, first-none}
 use Rattle.lookup.proofs.held.first_of.Statement.{statement}
 use Rattle.lookup.proofs.held.first_of.Tie as tie
 
 abbrev Inv-loop : tie.InvT-loop
-Inv-loop kind types lengths at₀ i₀ at i =
-    (i ≤ length types) × (at ≤ 65535 * i) × (firstOf kind 0 types lengths ≡ firstOf kind at (drop i types) (drop i lengths))
+Inv-loop kind holder types lengths start₀ i₀ start i =
+    (i ≤ length types) × (start ≤ 65535 * i) × (firstOf kind 0 types lengths ≡ firstOf kind start (drop i types) (drop i lengths))
 
 abbrev μ-loop : tie.MeasureT-loop
-μ-loop kind types lengths at₀ i₀ at i = length types - i
+μ-loop kind holder types lengths start₀ i₀ start i = length types - i
 
 loop-holds : tie.Need-loop-holds Inv-loop μ-loop
 loop-holds c = (search needs, search needs, refl)
@@ -24,20 +23,21 @@ returns : tie.Need-returns Inv-loop μ-loop
 returns c =
     let l = c .before .before .before .before .loop in
     let here : l .i < length (now (c .before .before .before .before .before .before .before .args .types)) = c .before .before .before .loop-test .taken in
-    sym (l .inv .2 ∙ first-here _ (l .at) _ _ (l .i) here (omega arith) (c .if1 .taken) ∙ ap (At (l .at)) (sym (c .before .before .cell .ensures .0)))
+    let found = l .inv .2 ∙ first-here _ (l .start) _ _ (l .i) here (omega arith) (c .if1 .taken) ∙ ap (At (l .start)) (sym (c .before .before .cell .ensures .0)) in
+    ap (heldBy (c .before .before .before .before .before .before .before .args .holder)) (sym found)
 
 loop-again : tie.Need-loop-again Inv-loop μ-loop
 loop-again c =
     let l = c .before .before .before .before .loop in
     let here : l .i < length (now (c .before .before .before .before .before .before .before .args .types)) = c .before .before .before .loop-test .taken in
-    let rest = l .inv .2 ∙ first-later _ (l .at) _ _ (l .i) here (omega arith) (c .if1 .left) in
+    let rest = l .inv .2 ∙ first-later _ (l .start) _ _ (l .i) here (omega arith) (c .if1 .left) in
     (search needs, omega (arith, c .before .before .cell .ensures .1, l .inv .1), rw (c .before .before .cell .ensures .0) rest)
 
 returns-2 : tie.Need-returns-2 Inv-loop μ-loop
 returns-2 c =
     let l = c .before .loop in
     let a = c .before .before .before .before .args in
-    sym (l .inv .2 ∙ first-none (a .kind) (l .at) (now (a .types)) _ (l .i) (c .loop-test .left))
+    ap (heldBy (a .holder)) (sym (l .inv .2 ∙ first-none (a .kind) (l .start) (now (a .types)) _ (l .i) (c .loop-test .left)))
 
 pub first-of-spec : {M : Type 1} → statement M
 first-of-spec =
