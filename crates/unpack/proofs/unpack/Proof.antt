@@ -36,5 +36,9 @@ returns-2 c =
 pub unpack-spec : {M : Type 1} → statement M
 unpack-spec =
     tie.close
-    (tie.spec (λ c κs. search needs) (λ c κs. search needs) returns unpack-taken-requires (λ c. search needs) (λ c. search needs) (λ c. search needs)
-    (λ c. search needs) returns-2)
+    (tie.spec (λ c κs. search needs) (λ c κs. search needs) returns unpack-taken-requires
+    (λ c. c .before .before .before .before .before .before .before .before .unpack-taken .kept .1 .1 .0)
+    (λ c. c .before .before .before .before .before .before .before .before .unpack-taken .kept .1 .1 .1 .0)
+    (λ c. c .before .before .before .before .before .before .before .before .unpack-taken .kept .1 .1 .1 .1 .0)
+    (λ c. c .before .before .before .before .before .before .before .before .unpack-taken .kept .1 .1 .1 .1 .1 .0)
+    returns-2)

@@ -41,6 +41,16 @@ returns c =
 pub unpack-taken-spec : {M : Type 1} → statement M
 unpack-taken-spec =
     tie.close
-    (tie.spec (λ c. search needs) (λ c. search needs) (λ c. search needs) (λ c. search needs) (λ c. search needs) (λ c κs. search needs)
-    (λ c. search needs) slice-aggregate-hand-out (λ c. search needs) slice-aggregate-hand-out-2 (λ c. within (c .before .before .before .before .before .before .before) .3) slice-aggregate-hand-out-3
-    (λ c. search needs) slice-aggregate-hand-out-4 (λ c κs. search needs) (λ c. search needs) (λ c. search needs) (λ c. search needs) (λ c. search needs) returns)
+    (tie.spec (λ c. search needs) (λ c. search needs) (λ c. search needs) (λ c. search needs) (λ c. search needs)
+    (λ c κs. search needs) (λ c. within (c .before .before .before .before .before) .1) slice-aggregate-hand-out
+    (λ c. within (c .before .before .before .before .before .before) .2)
+    slice-aggregate-hand-out-2
+    (λ c. within (c .before .before .before .before .before .before .before) .3)
+    slice-aggregate-hand-out-3
+    (λ c. c .before .before .before .before .before .before .before .before .open-in .ensures .room)
+    slice-aggregate-hand-out-4 (λ c κs. search needs)
+    (λ c. c .before .before .before .before .before .before .before .before .hand-out .kept .1 .1 .1 .1 .1 .0)
+    (λ c. c .before .before .before .before .before .before .before .before .hand-out .kept .1 .1 .1 .1 .1 .1 .0)
+    (λ c. c .before .before .before .before .before .before .before .before .hand-out .kept .1 .1 .1 .1 .1 .1 .1 .0)
+    (λ c. c .before .before .before .before .before .before .before .before .hand-out .kept .1 .1 .1 .1 .1 .1 .1 .1 .0)
+    returns)
