@@ -1,15 +1,12 @@
 -- The search of a type, one row at a time, in one table and in two.
-use Prim.Native.Nat.{ℕ, suc, _+_, _≤_, _<_, _^_}
+use Prim.Native.Nat.{ℕ, suc, _+_, _≤_, _<_}
 use mathlib.Core.Path.{_≡_, refl, ap, _∙_}
-use mathlib.Core.Bool.{Bool, true, false}
+use mathlib.Core.Bool.{true}
 use mathlib.Core.List.{List, _∷_}
 use native.Mathlib.Numerals.{add-one}
 use native.Mathlib.Omega.{arith}
-use lib.Dec.{eqb}
 use lib.ListN.{length, drop, getD, drop-of-length-le}
 use lib.Seq.{drop-cons}
-use mir.Syntax.{w64}
-use mir.Val.{Fits}
 use denote.Ref.{RefT}
 use borrow.Author.Tests.{eq-eqb, ne-eqb, le-leb}
 use Rattle.tables.specs.Tables.{Table, tableFits}
@@ -75,13 +72,6 @@ module _ {f : Finding} (kind : ℕ) (t u : Table) (e : f ≡ lookup kind t u) wh
       go (At a n) p y q = absurd (h (rw (e, p)))
       go Nothing p (At a n) q = rw (e, p, q) (held-within kind u a n q)
       go Nothing p Nothing q = rw (e, p, q) (omega arith)
-
-  pub end-fits : length (t .values) < 2 ^ 64 → length (u .values) < 2 ^ 64 → Fits w64 (f .start + f .size)
-  end-fits p q = go (eqb (f .holder) 2) refl
-    where
-      go : (b : Bool) → eqb (f .holder) 2 ≡ b → Fits w64 (f .start + f .size)
-      go true z = record { fits = omega (arith, rw z at within) }
-      go false z = record { fits = omega (arith, rw z at within) }
 
   module _ (first second r : RefT (List ℕ)) where
     pub of-first : (f .holder ≡ 2 → ⊥) → PartOf first (f .start) (f .size) r → Handed (lookup kind t u) first second r

@@ -3,8 +3,10 @@ pub mod held;
 
 use held::Finding;
 ghost use mathlib.Core.Path.{_≡_};
+ghost use Prim.Native.Nat.{_+_, _≤_};
+ghost use lib.ListN.{length};
 ghost use Rattle.tables.specs.Tables.{table};
-ghost use Rattle.lookup.specs.Lookup.{lookup, Handed};
+ghost use Rattle.lookup.specs.Lookup.{lookup, PartOf, Handed};
 
 // Which record has it, and the part of that record's area.
 pub fn finding(
@@ -25,6 +27,14 @@ pub fn finding(
         return first;
     }
     held::held_in(kind, 2, types2, counts2, lengths2, values2)
+}
+
+fn part<'a>(area: &'a [u8], start: usize, size: usize) -> &'a [u8]
+    requires { ⌜ start + size ≤ length (now area) ⌝ }
+    ensures { λ r. ⌜ PartOf (area .entry) start size r ⌝ }
+{
+    let end = start + size;
+    &area[start..end]
 }
 
 // The value of the first row of that type, as a part of the area that it lies in.
@@ -52,12 +62,10 @@ pub fn find<'a>(
         lengths2,
         values2,
     );
-    let start = f.start;
-    let end = start + f.size;
     if f.holder == 2 {
-        return &values2[start..end];
+        return part(values2, f.start, f.size);
     }
-    &values1[start..end]
+    part(values1, f.start, f.size)
 }
 
 // Which record has it: 1, 2, or 0 where neither does.
