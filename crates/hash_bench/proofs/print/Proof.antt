@@ -1,11 +1,11 @@
 -- `hash_bench::print` is safe and ends.
-use Prim.Native.Nat.{_≤_, _-_}
+use Prim.Native.Nat.{_-_}
 use borrow.Author.Needs.{needs}
 use Rattle.hash_bench.proofs.print.Statement.{statement}
 use Rattle.hash_bench.proofs.print.Tie as tie
 
 abbrev Inv-loop : tie.InvT-loop
-Inv-loop label i₀ t4 i = i ≤ 32
+Inv-loop label i₀ t4 i = Unit {0}
 
 abbrev μ-loop : tie.MeasureT-loop
 μ-loop label i₀ t4 i = 32 - i
@@ -13,6 +13,6 @@ abbrev μ-loop : tie.MeasureT-loop
 pub print-spec : {M : Type 1} → statement M
 print-spec =
     tie.close
-    (tie.spec Inv-loop μ-loop (λ c. search needs) (λ c. search needs) (λ c κs. search needs)
+    (tie.spec Inv-loop μ-loop (λ c. search needs) (λ c. search needs) (λ c. search needs)
     (λ c κs. search needs) (λ c. search needs) (λ c. search needs) (λ c. search needs) (λ c. search needs)
     (λ c κs. search needs) (λ c. search needs))
