@@ -11,35 +11,31 @@ ghost use lib.ListN.{length};
 const FILL: u8 = 165;
 
 fn main() {
-    let mut tally = [0u64; tally::CELLS];
-    run(&mut tally);
-    let mut text = [0u8; pages::BYTES];
-    let at = tally::print(&tally, &mut text);
-    pages::close(&text, at, b"call_bench");
+    tally::print(run());
 }
 
 // A proved loop ends: this one where the input does, or after more turns than any run takes.
-fn run(tally: &mut [u64; tally::CELLS]) {
+fn run() -> [u64; tally::CELLS] {
+    let mut tally = [0u64; tally::CELLS];
     let mut given = [0u8; task::GIVEN];
-    let mut names = [0u16; task::NAMES];
     let mut out = [0u8; task::ROOM];
     let mut turns = u64::MAX;
     while 0 < turns {
         if !task::read(&mut given) {
             break;
         }
-        task::name(&given, &mut names);
-        done(&given, &names, &mut out, tally);
+        done(&given, &mut out, &mut tally);
         turns -= 1;
     }
+    tally
 }
 
 // Tallies a task's answers and what stands in its output behind the last of them.
-fn done(given: &[u8], names: &[u16; task::NAMES], out: &mut [u8], tally: &mut [u64; tally::CELLS]) {
+fn done(given: &[u8], out: &mut [u8], tally: &mut [u64; tally::CELLS]) {
     let room = filled(out, parts::sixteen(given, task::OUTPUT));
     let mut left = parts::sixteen(given, task::TIMES);
     while 0 < left {
-        tally::answer(tally, calls::answered(given, names, &mut out[..room]));
+        tally::answer(tally, calls::answered(given, &mut out[..room]));
         left -= 1;
     }
     tally::bytes(tally, parts::bytes(out, 0, room));

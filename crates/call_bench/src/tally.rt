@@ -1,6 +1,7 @@
 // What the calls answered and wrote: how many were accepted and refused, and two sums over every number and byte. The
 // second sums the first as it grows, so that the order counts too.
 use answers::Answer;
+use libc::STDOUT_FILENO;
 use std::num;
 ghost use Prim.Native.Nat.{_<_};
 
@@ -69,17 +70,13 @@ fn wide(b: u8) -> u64 {
     b as u64
 }
 
-pub fn print(tally: &[u64; CELLS], text: &mut [u8; pages::BYTES]) -> usize {
-    let mut at = 0;
+pub fn print(tally: [u64; CELLS]) {
     let mut i = 0;
-    while i < CELLS {
-        at = pages::decimal(text, at, tally[i] as usize);
-        at = pages::byte(text, at, behind(i));
+    while i < SUMS {
+        io::print_decimal(STDOUT_FILENO, tally[i]);
+        io::write_all(STDOUT_FILENO, b" ");
         i += 1;
     }
-    at
-}
-
-fn behind(i: usize) -> u8 {
-    if i < SUMS { b' ' } else { b'\n' }
+    io::print_decimal(STDOUT_FILENO, tally[SUMS]);
+    io::write_all(STDOUT_FILENO, b"\n");
 }

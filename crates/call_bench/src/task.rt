@@ -5,12 +5,10 @@ ghost use mathlib.Core.Path.{_≡_};
 ghost use Prim.Native.Nat.{_≤_};
 ghost use lib.ListN.{length};
 
-// The longest part or output that 16 bits announce, a whole task, and the most names that a part holds.
+// The longest part or output that 16 bits announce, and a whole task.
 pub const ROOM: usize = 65535;
 
 pub const GIVEN: usize = HEAD + 2 * ROOM;
-
-pub const NAMES: usize = ROOM / 2;
 
 const HEAD: usize = 10;
 
@@ -62,22 +60,4 @@ pub fn first(given: &[u8]) -> &[u8] {
 
 pub fn second(given: &[u8]) -> &[u8] {
     parts::bytes(given, middle(given), end(given))
-}
-
-// Puts the names that the second part holds into cells.
-pub fn name(given: &[u8], cells: &mut [u16; NAMES]) {
-    let part = second(given);
-    let mut i = 0;
-    while i < NAMES {
-        if part.len() / 2 <= i {
-            return;
-        }
-        cells[i] = parts::sixteen(part, i) as u16;
-        i += 1;
-    }
-}
-
-// Those names.
-pub fn list<'a>(given: &[u8], names: &'a [u16; NAMES]) -> &'a [u16] {
-    parts::cells(names, 0, parts::sixteen(given, SECOND) / 2)
 }

@@ -9,10 +9,10 @@ use Rattle.call_bench.proofs.done.Statement.{statement}
 use Rattle.call_bench.proofs.done.Tie as tie
 
 abbrev Inv-loop : tie.InvT-loop
-Inv-loop given names out₀ tally₀ room left₀ out tally left = (room ≤ length out₀) × (length out ≡ length out₀)
+Inv-loop given out₀ tally₀ room left₀ out tally left = (room ≤ length out₀) × (length out ≡ length out₀)
 
 abbrev μ-loop : tie.MeasureT-loop
-μ-loop given names out₀ tally₀ room left₀ out tally left = left
+μ-loop given out₀ tally₀ room left₀ out tally left = left
 
 pub done-spec : {M : Type 1} → statement M
 done-spec =
