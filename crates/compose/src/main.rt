@@ -49,32 +49,28 @@ fn turn(
     if !r.line {
         return pages::flush(text, to);
     }
-    let whole = parts::bytes(area, r.from, r.to);
-    let title = parts::bytes(whole, 0, end_of(whole, r.over));
-    if line == 1 {
-        return first(title, r.over, text, to, bare);
+    let title = title(parts::bytes(area, r.from, r.to), line, r.over);
+    // The input is a byte order mark alone: there is no title.
+    if r.over && title.len() == 0 {
+        return to;
     }
     answers::put(title, line, text, to, bare)
 }
 
-// The first title. Where the input is a byte order mark alone, there is none.
-fn first(line: &[u8], last: bool, text: &mut [u8; pages::BYTES], to: usize, bare: bool) -> usize {
-    let from = behind_mark(line);
-    let title = parts::bytes(line, from, line.len());
-    if last && title.len() == 0 {
-        return to;
-    }
-    answers::put(title, 1, text, to, bare)
+// The title that stands on a line.
+fn title(line: &[u8], number: usize, last: bool) -> &[u8] {
+    parts::bytes(line, start_of(line, number), end_of(line, last))
 }
 
-fn behind_mark(line: &[u8]) -> usize {
-    if check::same(parts::bytes(line, 0, 3), b"\xEF\xBB\xBF") {
+// Where it starts: behind the byte order mark on the first line.
+fn start_of(line: &[u8], number: usize) -> usize {
+    if number == 1 && check::same(parts::bytes(line, 0, 3), b"\xEF\xBB\xBF") {
         return 3;
     }
     0
 }
 
-// Where the title ends in a line: before the carriage return, if a line feed is behind it.
+// Where it ends: before the carriage return, if a line feed is behind it.
 fn end_of(line: &[u8], last: bool) -> usize {
     let n = line.len();
     if 0 < n && !last {

@@ -6,7 +6,8 @@ ghost use Prim.Native.Nat.{_<_};
 
 pub fn complain(text: &mut [u8; pages::BYTES], line: usize, title: &[u8], r: Composed) {
     let at = begun(text, line, r.number, r.place);
-    let end = reason(text, at, title, r.number, r.place);
+    let rest = parts::bytes(title, r.place, title.len());
+    let end = reason(text, at, kind(r.number), rest);
     let to = pages::byte(text, end, b'\n');
     pages::complain(text, to);
 }
@@ -15,37 +16,33 @@ fn begun(text: &mut [u8; pages::BYTES], line: usize, number: usize, place: usize
     pages::numbered(text, 0, b"line @: refused @ at @: ", [line, number, place])
 }
 
-fn reason(
-    text: &mut [u8; pages::BYTES],
-    at: usize,
-    title: &[u8],
-    number: usize,
-    place: usize,
-) -> usize {
-    if number == Refusal::TITLE_LONG {
-        return long(text, at);
+// Which line of the reasons a number has.
+fn kind(number: usize) -> usize {
+    match number {
+        Refusal::TITLE_LONG => 0,
+        Refusal::NOT_UTF8 => 1,
+        Refusal::LOOSE_MARK => 2,
+        _ => 3,
     }
-    if number == Refusal::NOT_UTF8 {
-        return ill(text, at, title, place);
-    }
-    let to = code(text, at, utf8::character(title, place));
-    outside(text, to, number)
 }
 
-// What is wrong with a character of the title.
-fn outside(text: &mut [u8; pages::BYTES], at: usize, number: usize) -> usize {
-    let k = (number != Refusal::LOOSE_MARK) as usize;
-    let lines = b" is a mark without a letter that takes it\n is outside the repertoire";
-    pages::word(text, at, parts::words::line(lines, k))
-}
-
-fn long(text: &mut [u8; pages::BYTES], at: usize) -> usize {
-    pages::numbered(text, at, b"longer than @ bytes", [Title::MAX_BYTES, 0, 0])
-}
-
-fn ill(text: &mut [u8; pages::BYTES], at: usize, title: &[u8], place: usize) -> usize {
-    let byte = parts::bytes(title, place, parts::end(title, place, 1));
-    pages::form(text, at, b"not UTF-8: byte %", [0, 0, 0], byte)
+// What is wrong with the title, of which the rest begins with the bytes that are refused.
+fn reason(text: &mut [u8; pages::BYTES], at: usize, kind: usize, rest: &[u8]) -> usize {
+    let to = if 1 < kind {
+        code(text, at, utf8::character(rest, 0))
+    } else {
+        at
+    };
+    let reasons =
+        b"longer than @ bytes\nnot UTF-8: byte %\n is a mark without a letter that takes it\n is outside the repertoire";
+    let byte = parts::bytes(rest, 0, parts::end(rest, 0, 1));
+    pages::form(
+        text,
+        to,
+        parts::words::line(reasons, kind),
+        [Title::MAX_BYTES, 0, 0],
+        byte,
+    )
 }
 
 // A character's number: `U+` and four hex digits, or as many as it takes.
