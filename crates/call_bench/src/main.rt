@@ -11,20 +11,20 @@ ghost use lib.ListN.{length};
 const FILL: u8 = 165;
 
 fn main() {
-    tally::print(run());
+    let mut given = [0u8; task::GIVEN];
+    let mut out = [0u8; task::ROOM];
+    tally::print(run(&mut given, &mut out));
 }
 
 // A proved loop ends: this one where the input does, or after more turns than any run takes.
-fn run() -> [u64; tally::CELLS] {
+fn run(given: &mut [u8; task::GIVEN], out: &mut [u8]) -> [u64; tally::CELLS] {
     let mut tally = [0u64; tally::CELLS];
-    let mut given = [0u8; task::GIVEN];
-    let mut out = [0u8; task::ROOM];
     let mut turns = u64::MAX;
     while 0 < turns {
-        if !task::read(&mut given) {
+        if !task::read(given) {
             break;
         }
-        done(&given, &mut out, &mut tally);
+        done(given, out, &mut tally);
         turns -= 1;
     }
     tally
