@@ -145,25 +145,20 @@ fn hashed(t: Told, msg: &[u8]) -> Told {
     t.with(t.agree, made, label)
 }
 
+// A digest: the vector agrees where one was made and is the same; where not, a line says so.
 fn judged(t: Told, md: &[u8]) -> Told {
     let label = t.label;
-    let agrees = verdict(t.made, same(md, label), t.line);
-    t.with(wrapping_add_usize(t.agree, agrees), false, label)
+    let agrees = t.made & same(md, label);
+    if !agrees {
+        say(t.made as usize, t.line);
+    }
+    t.with(wrapping_add_usize(t.agree, agrees as usize), false, label)
 }
 
 fn same(md: &[u8], label: [u8; 32]) -> bool {
     let p = values::spelt(md);
     let theirs = p.label;
-    p.is && check::same(&theirs, &label)
-}
-
-// 1 where a digest was made and is the same; 0 where not, and a line says so.
-fn verdict(made: bool, same: bool, line: usize) -> usize {
-    if made && same {
-        return 1;
-    }
-    say(made as usize, line);
-    0
+    p.is & check::same(&theirs, &label)
 }
 
 // What is to be said of a line: 0, that there is nothing to compare; 1, that a digest differs; 2, that the line is too long.
