@@ -70,7 +70,8 @@ fn wide(b: u8) -> u64 {
     b as u64
 }
 
-pub fn print(tally: [u64; CELLS]) {
+// False where it could not be written.
+pub fn print(tally: [u64; CELLS]) -> bool {
     let mut i = 0;
     while i < SUMS {
         io::print_decimal(STDOUT_FILENO, tally[i]);
@@ -78,5 +79,5 @@ pub fn print(tally: [u64; CELLS]) {
         i += 1;
     }
     io::print_decimal(STDOUT_FILENO, tally[SUMS]);
-    io::write_all(STDOUT_FILENO, b"\n");
+    io::write_all(STDOUT_FILENO, b"\n")
 }

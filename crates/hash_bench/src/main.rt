@@ -1,5 +1,6 @@
 // Hashes its input over and over, for bench/hash to time. The input's first two bytes say how many times, the more
 // significant first; the rest is cut into texts of 4,096 bytes.
+use libc::STDERR_FILENO;
 use libc::STDIN_FILENO;
 use libc::STDOUT_FILENO;
 ghost use Prim.Native.Nat.{min};
@@ -8,7 +9,9 @@ ghost use mathlib.Core.Path.{_≡_};
 fn main() {
     let mut space = io::large_buffer();
     let n = io::read_full(STDIN_FILENO, &mut space);
-    print(repeated(&space[..n]));
+    if !print(repeated(&space[..n])) {
+        io::write_all(STDERR_FILENO, b"hash_bench: cannot write\n");
+    }
 }
 
 // The texts joined one after the other, the whole input so many times.
@@ -45,11 +48,12 @@ fn size(left: usize) -> usize
     if left < 4096 { left } else { 4096 }
 }
 
-fn print(label: [u8; 32]) {
+// False where it could not be written.
+fn print(label: [u8; 32]) -> bool {
     let mut i = 0;
     while i < 32 {
         io::print_hex(STDOUT_FILENO, label[i] as u64, 2);
         i += 1;
     }
-    io::write_all(STDOUT_FILENO, b"\n");
+    io::write_all(STDOUT_FILENO, b"\n")
 }
