@@ -7,7 +7,6 @@ use join_tables::areas::SmallPair;
 use join_tables::gathered;
 use outcomes::Refusal;
 use tables::limits::Slip;
-ghost use mathlib.Core.Path.{_≡_};
 ghost use Prim.Native.Nat.{_*_, _≤_};
 ghost use lib.ListN.{length};
 ghost use Rattle.tables.specs.Areas.{smallNodes};
