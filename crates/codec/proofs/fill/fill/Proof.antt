@@ -1,12 +1,16 @@
 -- `codec::fill::fill` meets its contract. The loop's invariant: `Going`, and the buffers keep their lengths. Assumes nothing.
 use mathlib.Core.Path.{_≡_, refl, _∙_}
 use mathlib.Core.Logic.{⊎-elim}
-use Prim.Native.Nat.{ℕ, _+_, _-_, _≤_}
+use Prim.Native.Nat.{ℕ, _+_, _-_, _*_, _≤_, _<_}
+use native.Mathlib.Nat.{add-sub-cancel-left, le-add-right}
 use native.Mathlib.Omega.{arith}
+use borrow.Author.Count.{falls}
 use borrow.Author.Needs.{needs}
 use borrow.Author.Tests.{not-true, not-false}
 use lib.ListN.{length, take, drop, length-set, length-drop}
 use lib.Seq.{length-take-le}
+use mir.Syntax.{w64}
+use mir.Val.{Fits}
 use Rattle.codec.specs.TableLaws.{row-small}
 use Rattle.codec.proofs.ReadTurns.{Going, started, went, ended-whole, ended-short}
 use Rattle.codec.proofs.fill.fill.Statement.{statement}
@@ -64,7 +68,7 @@ copy-requires c κs =
     let n : ℕ = l .used + k .result .length - l .used in
     let long : length (take n (drop (l .used) (l .values))) ≡ k .result .length =
     length-take-le n (drop (l .used) (l .values)) (omega (arith, length-drop (l .used) (l .values), is .fits, is .onward, l .inv .0 .packed, l .inv .4, c .before .before .before .before .before .before .before .before .before .before .before .before .before .pre .values-room))
-    ∙ omega arith in
+    ∙ add-sub-cancel-left (l .used) (k .result .length) in
     omega (arith, long, is .fits)
 
 mul-at : tie.Need-mul-at Inv-loop μ-loop
@@ -88,9 +92,9 @@ loop-again c =
       went (l .inv .0) (k .result) _
           (c .before .before .before .before .before .before .before .before .before .loop-test .taken) (omega (arith, s .pre .types-room, l .inv .1)) (omega (arith, s .pre .counts-room, l .inv .2))
           (omega (arith, s .pre .lengths-room, l .inv .3)) (omega (arith, s .pre .values-room, l .inv .4)) is (c .before .before .copy .ensures),
-      simp length-set (omega (arith, l .inv .1)),
-      simp length-set (omega (arith, l .inv .2)),
-      simp length-set (omega (arith, l .inv .3)),
+      length-set (l .types) (l .i) _ ∙ l .inv .1,
+      length-set (l .counts) (l .i) _ ∙ l .inv .2,
+      length-set (l .lengths) (l .i) _ ∙ l .inv .3,
       c .before .values .given .1 ∙ l .inv .4,
     )
 
@@ -109,6 +113,21 @@ returns c =
     (w .1 .ensures .missing (not-true _ (w .3 .taken))) hT hC hL hV)
     (c .loop-test .came)
 
+-- the columns have a row i, whose cells' places fit
+row-in :
+    (c : tie.In-loop Inv-loop μ-loop)
+    → let l = c .before .loop in
+    (l .i < length (l .types)) × (l .i < length (l .counts)) × (l .i < length (l .lengths)) × Fits w64 (l .i * 2)
+row-in c =
+    let p = c .before .before .before .before .before .before .before .pre in
+    let l = c .before .loop in
+    let here = c .loop-test .taken in (
+      omega (arith, here, p .types-room, l .inv .1),
+      omega (arith, here, p .counts-room, l .inv .2),
+      omega (arith, here, p .lengths-room, l .inv .3),
+      omega (arith, here, p .few),
+    )
+
 pub fill-spec : {M : Type 1} → statement M
 fill-spec =
     tie.close
@@ -117,28 +136,28 @@ fill-spec =
     μ-loop
     (λ c. search needs)
     loop-holds
-    (λ c κs. search needs)
+    (λ c κs. record { long = c .before .before .before .before .before .before .before .pre .long; within = c .before .loop .inv .0 .within })
     add-end
     cast-types
-    (λ c. search needs)
-    (λ c. search needs)
+    (λ c. row-in (c .before .before .before .before) .3)
+    (λ c. row-in (c .before .before .before .before) .0)
     cast-counts
-    (λ c. search needs)
-    (λ c. search needs)
+    (λ c. row-in (c .before .before .before .before .before) .3)
+    (λ c. row-in (c .before .before .before .before .before) .1)
     cast-lengths
-    (λ c. search needs)
-    (λ c. search needs)
-    (λ c. search needs)
-    (λ c. search needs)
+    (λ c. row-in (c .before .before .before .before .before) .3)
+    (λ c. row-in (c .before .before .before .before .before) .2)
+    (λ c. le-add-right _ _)
+    (λ c. le-add-right _ _)
     part-copy-end
     copy-requires
     mul-at
     add-at-2
-    (λ c. search needs)
-    (λ c. search needs)
+    (λ c. omega (arith, c .before .before .before .before .before .before .before .before .before .loop-test .taken, c .before .before .before .before .before .before .before .before .before .before .before .before .before .before .before .before .pre .few))
+    (λ c. falls _ _ (c .before .before .before .before .before .before .before .before .before .loop-test .taken))
     loop-again
-    (λ c. search needs)
-    (λ c. search needs)
-    (λ c. search needs)
-    (λ c. search needs)
+    (λ c. c .before .loop .inv .1)
+    (λ c. c .before .loop .inv .2)
+    (λ c. c .before .loop .inv .3)
+    (λ c. c .before .loop .inv .4)
     returns)
