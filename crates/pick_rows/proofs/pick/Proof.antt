@@ -1,12 +1,16 @@
-use Prim.Native.Nat.{ℕ, _+_, _-_, _≤_, _<_}
+use Prim.Native.Nat.{ℕ, _+_, _-_, _*_, _≤_, _<_}
 use denote.Ref.{now}
 use mathlib.Core.Path.{_≡_, refl, ap, _∙_}
+use native.Mathlib.Nat.{le-add-right}
 use native.Mathlib.Omega.{arith}
+use mir.Syntax.{w64}
+use mir.Val.{Fits}
 use lib.ListN.{length, getD, length-take, length-drop}
 use Rattle.pick_rows.proofs.Picking.{Going, value-part, label-part, value-in, value-room, going-none, going-puts, going-more, going-all}
 use Rattle.tables.specs.Tables.{entries}
 use Rattle.prune_rows.specs.Picked.{labelRows}
-use borrow.Author.Needs.{needs}
+use borrow.Author.Count.{falls}
+use borrow.Author.Needs.{needs, zero≤}
 use Rattle.pick_rows.proofs.pick.Statement.{statement}
 use Rattle.pick_rows.proofs.pick.Tie as tie
 
@@ -24,7 +28,7 @@ abbrev μ-loop : tie.MeasureT-loop
     length types - i
 
 loop-holds : tie.Need-loop-holds Inv-loop μ-loop
-loop-holds c = (omega arith, refl, refl, refl, refl, going-none (c .before .before .before .before .before .before .before .before .before .before .pre .0) _ _ _ _)
+loop-holds c = (zero≤, refl, refl, refl, refl, going-none (c .before .before .before .before .before .before .before .before .before .before .pre .0) _ _ _ _)
 
 -- row i has a mark, and its part of the area
 marked : (c : tie.In-loop Inv-loop μ-loop) → c .before .loop .i < length (now (c .before .before .before .before .before .before .before .before .before .before .before .before .args .marks))
@@ -75,11 +79,40 @@ loop-again c =
 returns : tie.Need-returns Inv-loop μ-loop
 returns c = going-all (c .before .before .before .before .before .before .before .before .before .before .before .before .pre .0) (c .loop-test .left) (c .before .loop .inv .0) (c .before .loop .inv .5)
 
+-- the columns have row i, whose cells' places fit, and the labels its label
+row-in :
+    (c : tie.In-loop Inv-loop μ-loop)
+    → let a = c .before .before .before .before .before .before .before .before .before .before .before .before .args in
+    let i = c .before .loop .i in
+    (i < length (now (a .counts))) × (i < length (now (a .lengths))) × (32 * i + 32 ≤ length (now (a .labels))) × Fits w64 (i * 2)
+row-in c =
+    let p = c .before .before .before .before .before .before .before .before .before .before .before .before .pre .0 in
+    let s = p .form .columns in
+    let here = c .loop-test .taken in
+    (rw (s .counts-long) here, rw (s .lengths-long) here, omega (arith, here, p .labels-room), omega (arith, here, s .few))
+
 pub pick-spec : {M : Type 1} → statement M
 pick-spec =
     tie.close
-    (tie.spec Inv-loop μ-loop loop-holds (λ c. search needs) (λ c κs. search needs) add-end (λ c. search needs) (λ c. search needs)
-    (λ c. search needs) (λ c. search needs) (λ c. search needs) (λ c. search needs) (λ c. search needs) (λ c. search needs)
-    (λ c. search needs) (λ c. search needs) (λ c. search needs) part-turn-end (λ c. search needs) (λ c. search needs)
-    (λ c. search needs) turn-requires (λ c. search needs) loop-again (λ c. search needs) (λ c. search needs) (λ c. search needs)
-    (λ c. search needs) returns)
+    (tie.spec Inv-loop μ-loop loop-holds (λ c. search needs) (λ c κs. row-in c .1) add-end (λ c. search needs) (λ c. search needs)
+    (λ c. marked (c .before .before))
+    (λ c. row-in (c .before .before) .3)
+    (λ c. c .before .before .before .loop-test .taken)
+    (λ c. row-in (c .before .before .before) .3)
+    (λ c. row-in (c .before .before .before .before) .0)
+    (λ c. row-in (c .before .before .before .before) .3)
+    (λ c. row-in (c .before .before .before .before .before) .1)
+    (λ c. le-add-right _ _)
+    (λ c. le-add-right _ _)
+    part-turn-end
+    (λ c. le-add-right _ _)
+    (λ c. le-add-right _ _)
+    (λ c. omega (arith, row-in (c .before .before .before .before .before .before) .2))
+    turn-requires
+    (λ c. falls _ _ (c .before .before .before .before .before .before .before .before .before .before .before .before .before .before .before .before .before .before .before .before .loop-test .taken))
+    loop-again
+    (λ c. c .before .loop .inv .1)
+    (λ c. c .before .loop .inv .2)
+    (λ c. c .before .loop .inv .3)
+    (λ c. c .before .loop .inv .4)
+    returns)

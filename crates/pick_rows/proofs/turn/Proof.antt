@@ -1,5 +1,6 @@
 use denote.Ref.{now}
 use native.Mathlib.Omega.{arith}
+use Rattle.tables.specs.Tables.{entryOf}
 use Rattle.pick_rows.proofs.Putting.{turn-gone, turn-kept, turn-cut, dangling-fits}
 use borrow.Author.Needs.{needs}
 use Rattle.pick_rows.proofs.turn.Statement.{statement}
@@ -14,7 +15,7 @@ put-requires c κs = c .before .before .before .before .before .before .before .
 returns-2 : tie.Need-returns-2
 returns-2 c =
     let a = c .before .before .before .before .before .before .before .before .before .before .before .before .before .before .before .before .before .before .before .before .before .args in
-    turn-kept (a .mark) (a .l) (a .p .rows) (a .p .used) (now (a .label)) _ _ _ _ _ _ _ _ _ _ _ (c .before .before .before .before .before .before .before .before .before .before .before .before .before .if2 .taken) (c .before .before .before .before .before .before .before .before .put .ensures)
+    turn-kept (a .mark) (a .l) (a .p .rows) (a .p .used) (now (a .label)) _ _ _ _ _ _ _ _ _ _ (entryOf (a .t) (a .c) (now (a .value))) (c .before .before .before .before .before .before .before .before .before .before .before .before .before .if2 .taken) (c .before .before .before .before .before .before .before .before .put .ensures)
 
 put-requires-2 : tie.Need-put-requires-2
 put-requires-2 c κs =
@@ -37,5 +38,14 @@ returns-3 c =
 pub turn-spec : {M : Type 1} → statement M
 turn-spec =
     tie.close
-    (tie.spec returns put-requires (λ c. search needs) (λ c. search needs) (λ c. search needs) (λ c. search needs) returns-2
-    (λ c. search needs) put-requires-2 (λ c. search needs) (λ c. search needs) (λ c. search needs) (λ c. search needs) returns-3)
+    (tie.spec returns put-requires
+    (λ c. c .before .before .before .before .before .before .before .before .put .kept .1 .1 .1 .1 .1 .0)
+    (λ c. c .before .before .before .before .before .before .before .before .put .kept .1 .1 .1 .1 .1 .1 .0)
+    (λ c. c .before .before .before .before .before .before .before .before .put .kept .1 .1 .1 .1 .1 .1 .1 .0)
+    (λ c. c .before .before .before .before .before .before .before .before .put .kept .1 .1 .1 .1 .1 .1 .1 .1 .0)
+    returns-2 (λ c. search needs) put-requires-2
+    (λ c. c .before .before .before .before .before .before .before .before .put2 .kept .1 .1 .1 .1 .1 .0)
+    (λ c. c .before .before .before .before .before .before .before .before .put2 .kept .1 .1 .1 .1 .1 .1 .0)
+    (λ c. c .before .before .before .before .before .before .before .before .put2 .kept .1 .1 .1 .1 .1 .1 .1 .0)
+    (λ c. c .before .before .before .before .before .before .before .before .put2 .kept .1 .1 .1 .1 .1 .1 .1 .1 .0)
+    returns-3)
