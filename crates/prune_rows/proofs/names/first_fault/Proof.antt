@@ -3,11 +3,14 @@ use mathlib.Core.Bool.{_&&_}
 use lib.Dec.{leb, ltb}
 use denote.Ref.{now}
 use mathlib.Core.Path.{_≡_, refl, sym, ap, _∙_}
+use native.Mathlib.Numerals.{add-one}
+use native.Mathlib.Omega.{arith}
 use lib.ListN.{length, drop, getD}
 use borrow.Author.Tests.{not-true, not-false}
 use Rattle.tables.specs.PruningList.{firstFault}
 use Rattle.prune_rows.proofs.Naming.{fault-here, fault-later, fault-none}
-use borrow.Author.Needs.{needs}
+use borrow.Author.Count.{falls}
+use borrow.Author.Needs.{needs, zero≤}
 use Rattle.prune_rows.proofs.names.first_fault.Statement.{statement}
 use Rattle.prune_rows.proofs.names.first_fault.Tie as tie
 
@@ -18,7 +21,7 @@ abbrev μ-loop : tie.MeasureT-loop
 μ-loop list counts low₀ i₀ low i = length list - i
 
 loop-holds : tie.Need-loop-holds Inv-loop μ-loop
-loop-holds c = (search needs, refl)
+loop-holds c = (zero≤, refl)
 
 -- what the test of number i says
 told :
@@ -27,7 +30,7 @@ told :
     let l = c .before .before .before .loop in
     let x = getD (now (a .list)) (l .i) 0 in
     ((leb (l .low) x && ltb 0 (getD (now (a .counts)) x 0)) ≡ c .may-follow .result) × (l .i < length (now (a .list)))
-told c = (cc (c .may-follow .ensures, c .before .cell .ensures .0), c .before .before .loop-test .taken)
+told c = (rw (c .before .cell .ensures .0) at (sym (c .may-follow .ensures)), c .before .before .loop-test .taken)
 
 returns : tie.Need-returns Inv-loop μ-loop
 returns c =
@@ -40,7 +43,7 @@ loop-again c =
     let a = c .before .before .before .before .before .before .before .args in
     let l = c .before .before .before .before .loop in
     let t = told (c .before) in (
-      search needs,
+      rw add-one (t .1),
       l .inv .1
           ∙ fault-later _ _ (l .i) (l .low) (t .1) (t .0 ∙ not-false _ (c .if1 .left))
           ∙ ap (λ (x : ℕ). firstFault (now (a .counts)) (l .i + 1) (x + 1) (drop (l .i + 1) (now (a .list)))) (sym (c .before .before .cell .ensures .0)),
@@ -54,5 +57,5 @@ returns-2 c =
 pub first-fault-spec : {M : Type 1} → statement M
 first-fault-spec =
     tie.close
-    (tie.spec Inv-loop μ-loop loop-holds (λ c κs. search needs) (λ c κs. search needs) returns (λ c. search needs) (λ c. search needs)
-    (λ c. search needs) loop-again returns-2)
+    (tie.spec Inv-loop μ-loop loop-holds (λ c κs. c .loop-test .taken) (λ c κs. tt) returns (λ c. omega (arith, c .before .before .cell .ensures .1))
+    (λ c. search needs) (λ c. falls _ _ (c .before .before .before .loop-test .taken)) loop-again returns-2)
