@@ -1,7 +1,6 @@
 use Prim.Native.Nat.{_<_}
 use mathlib.Core.Path.{_≡_}
 use native.Mathlib.Omega.{arith}
-use borrow.Author.Needs.{needs}
 use denote.Ref.{now}
 use Rattle.trees.specs.Rows.{node, tip}
 use Rattle.tables.specs.Tables.{entryOf}
@@ -44,5 +43,15 @@ returns-2 c =
 pub grow-spec : {M : Type 1} → statement M
 grow-spec =
     tie.close
-    (tie.spec push-requires hash-requires (λ c. search needs) (λ c. search needs) (λ c. search needs) (λ c. search needs) returns
-    (λ c. search needs) (λ c. search needs) (λ c. search needs) (λ c. search needs) (λ c. search needs) returns-2)
+    (tie.spec push-requires hash-requires
+    (λ c. c .before .before .before .before .before .before .before .before .push .kept .1 .1 .1 .1 .0)
+    (λ c. c .before .before .before .before .before .before .before .before .push .kept .1 .1 .1 .1 .1 .0)
+    (λ c. c .before .before .before .before .before .before .before .before .push .kept .1 .1 .1 .1 .1 .1 .0)
+    (λ c. c .before .before .before .before .before .before .before .before .push .kept .1 .1 .1 .1 .1 .1 .1 .0)
+    returns
+    (λ c. c .before .before .before .before .before .before .before .before .before .before .hash .kept .1 .1 .1 .0)
+    (λ c. c .before .before .before .before .before .before .before .before .before .before .hash .kept .1 .1 .1 .1 .0)
+    (λ c. c .before .before .before .before .before .before .before .before .before .before .hash .kept .1 .1 .1 .1 .1 .0)
+    (λ c. c .before .before .before .before .before .before .before .before .before .before .hash .kept .1 .1 .1 .1 .1 .1 .0)
+    (λ c. c .before .before .before .before .before .before .before .before .before .before .hash .kept .1 .1 .1 .1 .1 .1 .1 .0)
+    returns-2)

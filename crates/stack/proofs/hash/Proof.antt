@@ -1,6 +1,7 @@
 use Prim.Native.Nat.{ℕ, _+_, _-_, _*_}
 use mathlib.Core.Path.{_≡_, ap}
 use mathlib.Core.List.{List}
+use native.Mathlib.Nat.{le-refl}
 use native.Mathlib.Omega.{arith}
 use borrow.Author.Needs.{needs}
 use denote.Ref.{now}
@@ -75,6 +76,11 @@ returns c =
 pub hash-spec : {M : Type 1} → statement M
 hash-spec =
     tie.close
-    (tie.spec parent-of-requires sub-depth sub-top blocks-of-requires add-blocks mul-at (λ c. search needs) (λ c. search needs)
-    part-copy-start (λ c. search needs) copy-requires (λ c. search needs) push-requires (λ c. c .before .before .before .before .before .before .before .before .push .kept .1 .1 .1 .1 .0)
-    (λ c. c .before .before .before .before .before .before .before .before .push .kept .1 .1 .1 .1 .1 .0) (λ c. c .before .before .before .before .before .before .before .before .push .kept .1 .1 .1 .1 .1 .1 .0) (λ c. c .before .before .before .before .before .before .before .before .push .kept .1 .1 .1 .1 .1 .1 .1 .0) (λ c. search needs) returns)
+    (tie.spec parent-of-requires sub-depth sub-top blocks-of-requires add-blocks mul-at (λ c. search needs) part-copy-start
+    part-copy-start (λ c. le-refl _) copy-requires (λ c. search needs) push-requires
+    (λ c. c .before .before .before .before .before .before .before .before .push .kept .1 .1 .1 .1 .0)
+    (λ c. c .before .before .before .before .before .before .before .before .push .kept .1 .1 .1 .1 .1 .0)
+    (λ c. c .before .before .before .before .before .before .before .before .push .kept .1 .1 .1 .1 .1 .1 .0)
+    (λ c. c .before .before .before .before .before .before .before .before .push .kept .1 .1 .1 .1 .1 .1 .1 .0)
+    (λ c. c .before .before .before .before .before .before .before .before .before .before .before .before .before .before .before .labels .given .1)
+    returns)
