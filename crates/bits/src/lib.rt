@@ -1,4 +1,5 @@
 // Bytes as bits: fields read from any bit, and written one after the other.
+#![tactic(auto)]
 pub mod pen;
 pub mod read;
 

@@ -1,5 +1,6 @@
 // Runs the tasks on standard input, for bench/check, bench/prune and bench/join to time, and prints one line that
 // depends on every answer and every output (src/tally.rt says of what).
+#![tactic(auto)]
 mod calls;
 mod tally;
 mod task;

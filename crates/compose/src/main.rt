@@ -3,6 +3,7 @@
 // `composed`, a space and the composed bytes; or `refused`, the number and the place. With a word as argument the
 // composed bytes alone, and refusals in words on standard error. The line feed is no part of a title, nor is a carriage
 // return before it, nor a byte order mark at the very start of the input.
+#![tactic(auto)]
 mod answers;
 mod words;
 

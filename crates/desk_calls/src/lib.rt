@@ -1,4 +1,5 @@
 // Requests for the public calls, a line each, and their answers.
+#![tactic(auto)]
 mod answer;
 mod call;
 mod finding;

@@ -1,4 +1,5 @@
 // What digits spell: numbers in decimal, and bytes in lower-case hex, two digits a byte.
+#![tactic(auto)]
 ghost use Rattle.std.specs.Prelude.{◌*◌, ◌/◌, ◌≤◌, min, ◌≡◌, true, length, take};
 ghost use Rattle.digits.specs.Digits.{digit_of, longer_by, number_of, is_hex, bytes_of};
 

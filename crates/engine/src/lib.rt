@@ -1,2 +1,3 @@
 // The stack of document 000, section 5.4.2, over the rows of a table.
+#![tactic(auto)]
 pub mod judge;

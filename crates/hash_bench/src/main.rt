@@ -1,5 +1,6 @@
 // Hashes its input over and over, for bench/hash to time. The input's first two bytes say how many times, the more
 // significant first; the rest is cut into texts of 4,096 bytes.
+#![tactic(auto)]
 ghost use Rattle.std.specs.Prelude.{min, ◌≡◌};
 
 use libc::{STDERR_FILENO, STDIN_FILENO, STDOUT_FILENO};

@@ -1,1 +1,2 @@
 // The cases have no code: specs/ holds them, by computation.
+#![tactic(auto)]

@@ -1,4 +1,5 @@
 // The lookup of document 01: a value of a type in the first of two unpacked records, or else in the second.
+#![tactic(auto)]
 pub mod held;
 
 ghost use Rattle.std.specs.Prelude.{◌≡◌, ◌+◌, ◌≤◌, length};

@@ -1,1 +1,2 @@
 // NFC against stored answers of another implementation, by computation: specs/ has them, and there is no code.
+#![tactic(auto)]

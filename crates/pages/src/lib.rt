@@ -1,6 +1,7 @@
 // A page of text, for standard output as a rule. `at` bytes stand on it; each function puts its text behind them and
 // answers how many stand there then. A full page is written out and begun anew. Where that fails the answer is BROKEN,
 // which every function hands on: behind a failed write nothing more is written.
+#![tactic(auto)]
 ghost use Rattle.std.specs.Prelude.{◌+◌, ◌≤◌, ◌<◌, length};
 
 use libc::{STDERR_FILENO, STDOUT_FILENO};

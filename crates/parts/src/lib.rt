@@ -1,4 +1,5 @@
 // Parts of an area of bytes or of cells.
+#![tactic(auto)]
 pub mod words;
 
 ghost use Rattle.std.specs.Prelude.{◌≡◌, ◌≤◌, ◌<◌, length};

@@ -1,4 +1,5 @@
 // The piece of a node in its parent's prelabel: "type in two bytes, label length in two bytes, most significant first, then the label".
+#![tactic(auto)]
 ghost use Rattle.std.specs.Prelude.{◌≡◌, ◌++◌, ◌+◌, ◌^◌, ◌≤◌, ◌<◌, length, take};
 ghost use Rattle.trees.specs.Nodes.{head_bytes, piece};
 

@@ -1,4 +1,5 @@
 // Reads a slip from standard input and prints what it discloses, or its refusal.
+#![tactic(auto)]
 use libc::STDIN_FILENO;
 use tables::limits::Slip;
 use text_lines::reading;

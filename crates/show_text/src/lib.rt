@@ -1,4 +1,5 @@
 // What `show` prints of a slip, as document 01 has it. The lines go behind the `from` bytes of a page.
+#![tactic(auto)]
 ghost use Rattle.slips.specs.Opening.{Counted};
 ghost use Rattle.trees.specs.Rules.{max_bytes, max_nodes};
 

@@ -1,4 +1,5 @@
 // The stack of waiting nodes: in one area their pieces end to end, in three columns their types, heights and label lengths.
+#![tactic(auto)]
 ghost use Rattle.std.specs.Prelude.{◌≡◌, List, ◌^◌, ◌<◌};
 ghost use Rattle.trees.specs.Nodes.{blocks_of};
 ghost use Rattle.trees.specs.Rows.{Tag, node};

@@ -1,3 +1,4 @@
 // Lines of text, as they are read.
+#![tactic(auto)]
 pub mod input;
 pub mod reading;

@@ -1,4 +1,5 @@
 // Titles composed to NFC within the repertoire of document 01, and the test for text values in slips.
+#![tactic(auto)]
 mod composed;
 mod scan;
 

@@ -1,4 +1,5 @@
 // The tree of a slip as people draw it.
+#![tactic(auto)]
 ghost use Rattle.std.specs.Prelude.{◌≡◌};
 ghost use Rattle.sha256.specs.Sha256 as Sha256;
 ghost use Rattle.titles.specs.Compose.{composed_text};
