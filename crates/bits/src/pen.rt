@@ -41,7 +41,7 @@ pub fn put_bytes(pen: Pen, src: &[u8], out: &mut [u8]) -> Pen
     let end = at + src.len();
     let mut acc = pen.acc;
     if held == 0 {
-        bytes::copy(src, &mut out[at..end]);
+        out[at..end].copy_from_slice(src);
     } else {
         acc = shift_in(acc, held, src, &mut out[at..end]);
     }

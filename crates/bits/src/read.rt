@@ -36,7 +36,7 @@ pub fn copy(s: &[u8], at: usize, dst: &mut [u8])
     let off = at % 8;
     let end = i + dst.len();
     if off == 0 {
-        bytes::copy(&s[i..end], dst);
+        dst.copy_from_slice(&s[i..end]);
     } else {
         shift_out(s, i, off, dst);
     }
