@@ -12,7 +12,7 @@ use Rattle.trees.specs.Nodes.{Node, Run, inner, leaf, nil, cons, count, size, si
 use Rattle.trees.specs.Rules.{max_children}
 use Rattle.trees.specs.Places.{Place, node_at, child_at, is_dangling, Le, cut}
 use Rattle.trees.specs.PlacesLaws.{leaf_inner}
-use Rattle.trees.specs.PruneLaws.{cut_le, cut_onto, cut_agree}
+use Rattle.trees.proofs.PruneLaws.{cut_le, cut_onto, cut_agree}
 use Rattle.trees.specs.Rows.{node, tip, formed, rows, last_row, number, number_in}
 use Rattle.trees.specs.RowsLaws.{length_rows}
 use Rattle.trees.specs.NumbersLaws.{Numbered, number_low, number_in_low, number_onto, entry_at, moved}

@@ -2,7 +2,7 @@
 use Rattle.std.specs.Prelude.{ℕ, zero, suc, ◌+◌, ◌≤◌, ◌<◌, ◌≡◌, refl, List, [], map, length, take, drop, get_or}
 use Rattle.std.proofs.Common.{sym, ap, ◌∙◌, append-nil, zero-add, arith, get_or-take, length-take-le}
 use Rattle.trees.specs.Nodes.{Node, size}
-use Rattle.trees.specs.NodesLaws.{some_size}
+use Rattle.trees.proofs.NodesLaws.{some_size}
 use Rattle.trees.specs.Places.{cut}
 use Rattle.trees.specs.Rows.{Entry, node, tip, rows, number, pruned_rows}
 use Rattle.trees.specs.RowsLaws.{length_rows}
