@@ -1,7 +1,7 @@
 -- `first` meets its contract: each branch is that of the first byte.
 use mathlib.Core.Path.{sym, ◌∙◌}
 use borrow.Author.Rules.{rules}
-use Rattle.nfc.specs.FrontsLaws.{front_1, front_2, front-3, front-4}
+use Rattle.nfc.specs.FrontsLaws.{front_1, front_2, front_3, front_4}
 use Rattle.utf8.proofs.first.Statement.{statement}
 use Rattle.utf8.proofs.first.Tie as tie
 
@@ -22,7 +22,7 @@ returns-3 c =
     let a = c.before.before.before.before.before.before.byte.ensures.0 in
     let b = c.before.before.before.before.byte2.ensures.0 in
     c.three.ensures
-    ∙ sym (front-3 x.s.now x.at _ _ _ a b c.before.before.byte3.ensures.0 c.before.before.before.if2.false c.before.if3.true)
+    ∙ sym (front_3 x.s.now x.at _ _ _ a b c.before.before.byte3.ensures.0 c.before.before.before.if2.false c.before.if3.true)
 
 returns-4 : tie.Need-returns-4
 returns-4 c =
@@ -31,7 +31,7 @@ returns-4 c =
     let b = c.before.before.before.before.before.byte2.ensures.0 in
     let third = c.before.before.before.byte3.ensures.0 in
     c.four.ensures
-    ∙ sym (front-4 x.s.now x.at _ _ _ _ a b third c.before.byte4.ensures.0 c.before.before.if3.false)
+    ∙ sym (front_4 x.s.now x.at _ _ _ _ a b third c.before.byte4.ensures.0 c.before.before.if3.false)
 
 pub first_spec : {M : Type 1} → statement M
 first_spec =

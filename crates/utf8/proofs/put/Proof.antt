@@ -4,7 +4,7 @@ use native.Mathlib.Omega.{arith}
 use borrow.Author.Rules.{rules}
 use lib.ListN.{length, length-set}
 use Rattle.nfc.specs.BoundsLaws.{width_1, width_2, encode_1, encode_2}
-use Rattle.lists.specs.PartsLaws.{one_more, take-stores}
+use Rattle.lists.specs.PartsLaws.{one_more, take_stores}
 use Rattle.nfc.specs.Utf8.{follow}
 use Rattle.utf8.proofs.put.Statement.{statement}
 use Rattle.utf8.proofs.put.Tie as tie
@@ -32,7 +32,7 @@ returns-2 c =
     let w = width_2 a.c h (omega arith) in
     let room : a.n + 1 < length a.text.now = omega (arith, w) in (
       omega (arith, w),
-      rw (encode_2 a.c h (omega arith)) (take-stores a.text.now a.n (0xC0 + a.c / 0x40) (follow a.c) room),
+      rw (encode_2 a.c h (omega arith)) (take_stores a.text.now a.n (0xC0 + a.c / 0x40) (follow a.c) room),
     )
 
 pub put_spec : {M : Type 1} → statement M

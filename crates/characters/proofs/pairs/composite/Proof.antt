@@ -6,7 +6,7 @@ use borrow.Author.Rules.{rules}
 use lib.ListN.{length, drop}
 use Rattle.nfc.specs.Joining.{joined}
 use Rattle.characters.specs.Clauses.{sought}
-use Rattle.characters.proofs.Searches.{sought-next, sought_end, rows}
+use Rattle.characters.proofs.Searches.{sought_next, sought_end, rows}
 use Rattle.characters.proofs.pairs.composite.Statement.{statement}
 use Rattle.characters.proofs.pairs.composite.Tie as tie
 
@@ -28,14 +28,14 @@ returns : tie.Need-returns invariant-loop decreases-loop
 returns c =
     let a = c.before.before.before.before.before.before.before.before.args in
     let l = c.before.before.before.before.before.loop in
-    let next = sought-next a.table.now l.i a.letter a.mark (omega arith) in
+    let next = sought_next a.table.now l.i a.letter a.mark (omega arith) in
     c.wide.ensures ∙ sym (l.invariant.3 ∙ next ∙ rw (← c.before.before.before.is_row.ensures, c.before.before.if1.true))
 
 loop-again : tie.Need-loop-preserved invariant-loop decreases-loop
 loop-again c =
     let a = c.before.before.before.before.before.before.args in
     let l = c.before.before.before.loop in
-    let next = sought-next a.table.now l.i a.letter a.mark (omega arith) in
+    let next = sought_next a.table.now l.i a.letter a.mark (omega arith) in
     (l.invariant.0, omega arith, omega arith, l.invariant.3 ∙ next ∙ rw (← c.before.is_row.ensures, c.if1.false))
 
 returns-2 : tie.Need-returns-2 invariant-loop decreases-loop

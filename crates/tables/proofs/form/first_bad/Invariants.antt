@@ -1,4 +1,3 @@
--- every column has row i
 use Prim.Native.Nat.{◌-◌, ◌≤◌}
 use lib.ListN.{length, drop}
 use Rattle.tables.specs.Tables.{first_bad}

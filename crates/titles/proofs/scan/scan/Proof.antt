@@ -13,7 +13,7 @@ use Rattle.nfc.specs.DecodingLaws.{width_some}
 use Rattle.titles.specs.Compose.{answer_from}
 use Rattle.titles.specs.ComposeLaws.{fault_some}
 use Rattle.titles.specs.ClustersLaws.{next_fits}
-use Rattle.titles.proofs.Reached.{Reached, reached_start, reached_bad, reached-one, reached_two, two_fits, reached_end, reached_all, whole_small}
+use Rattle.titles.proofs.Reached.{Reached, reached_start, reached_bad, reached_one, reached_two, two_fits, reached_end, reached_all, whole_small}
 use Rattle.titles.specs.declared.composed.Composed.{Composed}
 use Rattle.titles.proofs.scan.scan.Statement.{statement}
 use Rattle.titles.proofs.scan.scan.Tie as tie
@@ -72,7 +72,7 @@ loop-again c =
     let none = sym (rw w.width.ensures at c.before.before.before.before.before.joined_at.ensures) ∙ c.before.before.before.before.if2.true in (
       put.auto.0 ∙ l.invariant.0,
       rw w.width.ensures
-          (reached-one _ l.at l.n f.result l.room l.invariant.1 c.before.before.before.before.before.before.before.before.before.before.loop-test.true f.ensures (plain-there w) put.result put.new.0
+          (reached_one _ l.at l.n f.result l.room l.invariant.1 c.before.before.before.before.before.before.before.before.before.before.loop-test.true f.ensures (plain-there w) put.result put.new.0
           none
           put.ensures.0
           put.ensures.1),
