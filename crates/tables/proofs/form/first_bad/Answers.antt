@@ -1,5 +1,4 @@
-use Prim.Native.Nat.{◌<◌, ◌-◌}
-use borrow.Author.Tests.{not-true, not-false}
+use Prim.Native.Nat.{◌<◌}
 use lib.ListN.{get_or, length}
 use Rattle.tables.specs.Tables.{row_fits}
 use mathlib.Core.Path.{◌≡◌, sym, ◌∙◌}
@@ -15,7 +14,7 @@ returns-then-not-row_fits c =
     let row_told : let a = c.args in let i = c.loop-i.i in row_fits (get_or a.types.now i 0) (get_or a.counts.now i 0) (get_or a.lengths.now i 0) ≡ c.row_fits.result = rw (c.cell.ensures.0, c.cell-in-loop-i.ensures.0, c.cell-in-loop-i-2.ensures.0) at (sym c.row_fits.ensures) in
     let l = c.loop-i in
     let h = all_have in
-    sym (l.invariant.1 ∙ bad_here _ _ _ l.i h.0 h.1 h.2 (row_told ∙ not-true _ c.if-not-row_fits.true))
+    sym (l.invariant.1 ∙ bad_here _ _ _ l.i h.0 h.1 h.2 (row_told ∙ c.if-not-row_fits.true))
 
 pub loop-i-preserved : goal.loop-i-preserved
 loop-i-preserved c =
@@ -25,7 +24,7 @@ loop-i-preserved c =
     let row_told : let a = c.args in let i = c.loop-i.i in row_fits (get_or a.types.now i 0) (get_or a.counts.now i 0) (get_or a.lengths.now i 0) ≡ c.row_fits.result = rw (c.cell.ensures.0, c.cell-in-loop-i.ensures.0, c.cell-in-loop-i-2.ensures.0) at (sym c.row_fits.ensures) in
     let l = c.loop-i in
     let h = all_have in
-    (rw add-one h.0, l.invariant.1 ∙ bad_later _ _ _ l.i h.0 h.1 h.2 (row_told ∙ not-false _ c.if-not-row_fits.false))
+    (rw add-one h.0, l.invariant.1 ∙ bad_later _ _ _ l.i h.0 h.1 h.2 (row_told ∙ c.if-not-row_fits.false))
 
 pub returns : goal.returns
 returns c =
