@@ -21,7 +21,7 @@ use Rattle.prune_rows.specs.MarksLaws.{walk_marks, cut_off_named}
 use Rattle.prune_rows.specs.PickedLaws.{picked_take, picked_agree, length_label_rows, label_rows_at}
 use Rattle.prune_rows.specs.PickedTrees.{picked_rows}
 use Rattle.prune_rows.specs.TableLaws.{entries_counts, entries_at}
-use Rattle.tables.specs.ListRule.{named_inner}
+use Rattle.tables.proofs.ListRule.{named_inner}
 
 -- a row looks at its label only where it has children
 same_row : (m t c : ℕ) (v x y : List ℕ) → (0 < c → x ≡ y) → row_by m (entry_of t c v) x ≡ row_by m (entry_of t c v) y
