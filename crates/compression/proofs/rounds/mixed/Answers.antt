@@ -1,6 +1,6 @@
 use Rattle.std.proofs.Common.{refl, lit≤}
 use Rattle.compression.specs.Compression.{rounds}
-use Rattle.compression.proofs.Steps.{rounds-more, eight}
+use Rattle.compression.proofs.Steps.{rounds_more, eight}
 use Rattle.compression.proofs.Turns.{next_few}
 use Rattle.compression.proofs.rounds.mixed.Goals as goal
 
@@ -12,7 +12,7 @@ pub loop-turn-preserved : goal.loop-turn-preserved
 loop-turn-preserved c =
     let few = c.loop-turn-test.true in (
       next_few few,
-      eight (rounds-more _ _ c.requires) c.loop-turn.turn few c.loop-turn.invariant.1
+      eight (rounds_more _ _ c.requires) c.loop-turn.turn few c.loop-turn.invariant.1
           c.round-v1.ensures
           c.round-v2.ensures
           c.round-v3.ensures

@@ -1,7 +1,7 @@
 use Rattle.std.proofs.Common.{◌≡◌, ◌≤◌, length, sym, ◌∙◌, arith, lit≤, take_all}
 use Rattle.compression.specs.Compression.{schedule}
 use Rattle.words.specs.Sha256.{constants}
-use Rattle.compression.proofs.Steps.{schedule-more, eight}
+use Rattle.compression.proofs.Steps.{schedule_more, eight}
 use Rattle.compression.proofs.Turns.{next_few}
 use Rattle.compression.proofs.schedule.schedule.Goals as goal
 
@@ -13,7 +13,7 @@ pub loop-turn-preserved : goal.loop-turn-preserved
 loop-turn-preserved c =
     let few = c.loop-turn-test.true in (
       next_few few,
-      eight (schedule-more _) c.loop-turn.turn few c.loop-turn.invariant.1
+      eight (schedule_more _) c.loop-turn.turn few c.loop-turn.invariant.1
           c.lay.ensures
           c.lay-in-loop-turn.ensures
           c.lay-in-loop-turn-2.ensures
