@@ -2,10 +2,9 @@ use mathlib.Core.Path.{refl}
 use Rattle.compression.specs.Compression.{chain}
 use Rattle.words.specs.Sha256.{start}
 use borrow.Author.Rules.{rules}
-use Rattle.sha256.proofs.digest.Digest.new.Statement.{statement}
-use Rattle.sha256.proofs.digest.Digest.new.Tie as tie
+use Rattle.sha256.proofs.digest.Digest.new.Goals as goal
 
-returns : tie.Need-returns
+pub returns : goal.returns
 unfolding chain start
 returns c =
     record {
@@ -18,6 +17,3 @@ returns c =
       so_far = refl;
       left = refl;
     }
-
-pub new_spec : {M : Type 1} → statement M
-new_spec = tie.close (tie.spec returns)
