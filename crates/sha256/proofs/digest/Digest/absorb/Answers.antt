@@ -1,4 +1,4 @@
-use Prim.Native.Nat.{ℕ, ◌+◌, ◌-◌, ◌*◌, ◌%◌, ◌≤◌, ◌<◌}
+use Prim.Native.Nat.{ℕ, ◌+◌, ◌-◌, ◌*◌, ◌/◌, ◌%◌, ◌≤◌, ◌<◌}
 use mathlib.Core.Path.{ap, ◌∙◌}
 use mathlib.Core.List.{List}
 use native.Mathlib.Omega.{arith}
@@ -10,11 +10,18 @@ use Rattle.lists.specs.PartsLaws.{tail-part}
 use Rattle.sha256.proofs.Holding.{held_short, held_long}
 use Rattle.sha256.proofs.digest.Digest.absorb.Goals as goal
 
+-- the room in the last block of a text of len bytes, and the whole blocks of n bytes behind that room
+abbrev room_of : ℕ → ℕ
+room_of len = 64 - len % 64
+
+abbrev whole_of : ℕ → ℕ → ℕ
+whole_of len n = (n - room_of len) / 64
+
 -- they are of the part, and less than a block is left of it
-blocks-in : (len n : ℕ) → roomOf len ≤ n → roomOf len + 64 * whole_of len n ≤ n
+blocks-in : (len n : ℕ) → room_of len ≤ n → room_of len + 64 * whole_of len n ≤ n
 blocks-in len n there = omega (arith, there)
 
-blocks-over : (len n : ℕ) → roomOf len ≤ n → n < roomOf len + 64 * whole_of len n + 64
+blocks-over : (len n : ℕ) → room_of len ≤ n → n < room_of len + 64 * whole_of len n + 64
 blocks-over len n there = omega (arith, there)
 
 pub returns-then-n-room : goal.returns-then-n-room
@@ -29,7 +36,7 @@ returns c =
     let a = c.args in
     let part : List ℕ = a.part.now in
     let rest : ℕ = a.self.len % 64 in
-    let room : ℕ = roomOf a.self.len in
+    let room : ℕ = room_of a.self.len in
     let w : ℕ = whole_of a.self.len (length part) in
     let there : room ≤ length part = c.if-n-room.false in
     λ t d.
