@@ -1,7 +1,6 @@
-use Rattle.std.proofs.Common.{refl, lit≤}
+use Rattle.std.proofs.Common.{refl, lit≤, arith}
 use Rattle.compression.specs.Compression.{rounds}
 use Rattle.compression.proofs.Steps.{rounds_more, eight}
-use Rattle.compression.proofs.Turns.{next_few}
 use Rattle.compression.proofs.rounds.mixed.Goals as goal
 
 pub loop-turn-init : goal.loop-turn-init
@@ -11,7 +10,7 @@ loop-turn-init c = (lit≤ tt, refl)
 pub loop-turn-preserved : goal.loop-turn-preserved
 loop-turn-preserved c =
     let few = c.loop-turn-test.true in (
-      next_few few,
+      omega arith,
       eight (rounds_more _ _ c.requires) c.loop-turn.turn few c.loop-turn.invariant.1
           c.round-v1.ensures
           c.round-v2.ensures

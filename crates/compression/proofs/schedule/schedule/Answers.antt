@@ -2,7 +2,6 @@ use Rattle.std.proofs.Common.{◌≡◌, ◌≤◌, length, sym, ◌∙◌, arit
 use Rattle.compression.specs.Compression.{schedule}
 use Rattle.words.specs.Sha256.{constants}
 use Rattle.compression.proofs.Steps.{schedule_more, eight}
-use Rattle.compression.proofs.Turns.{next_few}
 use Rattle.compression.proofs.schedule.schedule.Goals as goal
 
 pub loop-turn-init : goal.loop-turn-init
@@ -12,7 +11,7 @@ loop-turn-init c = (lit≤ tt, (lit≤ tt, c.loaded-w.ensures.0, c.loaded-w.ensu
 pub loop-turn-preserved : goal.loop-turn-preserved
 loop-turn-preserved c =
     let few = c.loop-turn-test.true in (
-      next_few few,
+      omega arith,
       eight (schedule_more _) c.loop-turn.turn few c.loop-turn.invariant.1
           c.lay.ensures
           c.lay-in-loop-turn.ensures
