@@ -1,4 +1,3 @@
 -- Laws that the functions' proofs cite.
 pub mod Block
 pub mod Steps
-pub mod Turns

@@ -1,30 +1,11 @@
 -- Laws of the schedule, the rounds and the chain, in the code's own terms.
 use Rattle.std.proofs.Common.{◌≡◌, ℕ, suc, ◌+◌, ◌-◌, ◌*◌, ◌<◌, ◌≤◌, List, [], ◌∷◌, length, get_or, take, drop, set, ap, ◌∙◌, add-one, arith, length-set, get_or-take}
-use Rattle.words.specs.Words.{plus, ch, maj}
+use Rattle.words.specs.Words.{plus}
 use Rattle.compression.specs.Compression.{following, schedule, scheduled, first, second, round, rounds, added, compress, chain}
-use Rattle.words.specs.Sha256.{sha256, three, two, constants}
+use Rattle.words.specs.Sha256.{sha256, constants}
 use Rattle.lists.specs.PartsLaws.{filled}
 
--- T1, T2 and a round, from what the code's steps give
-pub first_is :
-    (v : List ℕ) (k w : ℕ) {s g x y z r : ℕ}
-    → s ≡ three 6 11 25 (get_or v 4 0)
-    → x ≡ plus 32 (get_or v 7 0) s
-    → g ≡ ch 32 (get_or v 4 0) (get_or v 5 0) (get_or v 6 0)
-    → y ≡ plus 32 x g
-    → z ≡ plus 32 y k
-    → r ≡ plus 32 z w
-    → r ≡ first sha256 v k w
-first_is v k w a b c d e f = rw (f, e, d, c, b, a)
-
-pub second_is :
-    (v : List ℕ) {s m r : ℕ}
-    → s ≡ three 2 13 22 (get_or v 0 0)
-    → m ≡ maj (get_or v 0 0) (get_or v 1 0) (get_or v 2 0)
-    → r ≡ plus 32 s m
-    → r ≡ second sha256 v
-second_is v a b c = rw (c, b, a)
-
+-- a round, from what the code's steps give
 pub round_is :
     (v : List ℕ) (k w : ℕ) {t1 t2 a e : ℕ}
     → t1 ≡ first sha256 v k w
@@ -34,17 +15,6 @@ pub round_is :
     → a ∷ get_or v 0 0 ∷ get_or v 1 0 ∷ get_or v 2 0 ∷ e ∷ get_or v 4 0 ∷ get_or v 5 0 ∷ get_or v 6 0 ∷ [] ≡ round sha256 v k w
 unfolding round
 round_is v k w p q r s = rw (r, s, p, q)
-
--- one word of the schedule, from what the code's steps give
-pub following_is :
-    (w : List ℕ) (t : ℕ) {near far s1 s0 r : ℕ}
-    → s1 ≡ two 17 19 10 (get_or w (t - 2) 0)
-    → near ≡ plus 32 s1 (get_or w (t - 7) 0)
-    → s0 ≡ two 7 18 3 (get_or w (t - 15) 0)
-    → far ≡ plus 32 near s0
-    → r ≡ plus 32 far (get_or w (t - 16) 0)
-    → set w t r ≡ set w t (following sha256 w t)
-following_is w t a b c d e = rw (e, d, c, b, a)
 
 -- the next word looks only at those before it
 following_take : (w : List ℕ) (t : ℕ) → 16 ≤ t → following sha256 w t ≡ following sha256 (take t w) t

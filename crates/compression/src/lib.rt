@@ -1,5 +1,6 @@
 // One block of SHA-256, FIPS 180-4, section 6.2.2, and the chain of hash values over a text's blocks.
 #![tactic(auto)]
+
 mod rounds;
 mod schedule;
 

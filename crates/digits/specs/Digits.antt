@@ -1,6 +1,6 @@
 -- What digits spell.
-use Rattle.std.specs.Prelude.{ℕ, ◌+◌, ◌*◌, Bool, true, false, cond, List, [], ◌∷◌, ltb}
-use Rattle.bytes.specs.Bytes.{index_of}
+use Rattle.std.specs.Prelude.{ℕ, ◌+◌, ◌*◌, Bool, true, false, cond, ◌==◌, List, [], ◌∷◌, ltb}
+use Rattle.std.specs.List.{position_or_len}
 
 -- "0123456789abcdef"
 unfoldable pub glyphs : List ℕ
@@ -8,7 +8,7 @@ glyphs = 48 ∷ 49 ∷ 50 ∷ 51 ∷ 52 ∷ 53 ∷ 54 ∷ 55 ∷ 56 ∷ 57 ∷ 9
 
 -- the place of a byte among them, 16 where it has none
 unfoldable pub digit_of : ℕ → ℕ
-digit_of b = index_of b glyphs
+digit_of b = position_or_len (λ glyph. glyph == b) glyphs
 
 -- whether digits spell bytes, two a byte
 unfoldable pub is_hex : List ℕ → Bool

@@ -1,9 +1,8 @@
 // What digits spell: numbers in decimal, and bytes in lower-case hex, two digits a byte.
 #![tactic(auto)]
+
 ghost use Rattle.std.specs.Prelude.{◌*◌, ◌/◌, ◌≤◌, min, ◌≡◌, true, length, take};
 ghost use Rattle.digits.specs.Digits.{digit_of, longer_by, number_of, is_hex, bytes_of};
-
-use bytes::scan;
 
 // No number.
 pub const NONE: usize = usize::MAX;
@@ -15,7 +14,10 @@ pub const OVER: u32 = 65536;
 fn digit(b: u8) -> usize
     ensures { (result ≡ digit_of b) × (result ≤ 16) }
 {
-    scan::find(b"0123456789abcdef", 0, 16, b)
+    match b"0123456789abcdef".iter().position(|glyph| *glyph == b) {
+        Some(at) => at,
+        None => 16,
+    }
 }
 
 // The number that decimal digits are; NONE where there is no digit, another byte, or a digit behind a number of 2^32 or more.

@@ -1,5 +1,4 @@
-// The running digest lent. Each function over a `&mut` to a struct is proved by hand, so there are two: `put`, and `absorbed`, which
-// lends and serves every other caller.
+// The running digest lent: to `put`, and by `absorbed`, which serves every other caller.
 ghost use Rattle.std.specs.Prelude.{◌+◌, ◌^◌, ◌<◌, length};
 ghost use Rattle.sha256.specs.Running.{Grows};
 

@@ -1,5 +1,6 @@
 // The label of a text, its SHA-256: of a text that is there as a whole, or in two parts. One running digest, lent, grows with each part.
 #![tactic(auto)]
+
 pub mod lent;
 
 ghost use Rattle.std.specs.Prelude.{◌≡◌, ◌++◌, ◌+◌, ◌^◌, ◌<◌, length};

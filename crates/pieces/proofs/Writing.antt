@@ -4,17 +4,18 @@ use mathlib.Core.Path.{◌≡◌, refl, ap₂, ◌∙◌}
 use mathlib.Core.List.{List, [], ◌∷◌, ◌++◌, append_assoc}
 use native.Mathlib.Omega.{arith}
 use borrow.Rule.Slice.PartMut.{put_mid}
-use lib.ListN.{length, take, drop, set, length-set}
+use lib.ListN.{length, take, set, length-set}
 use lib.Seq.{take_all, paste, take-paste}
 use Rattle.trees.specs.Nodes.{head_bytes, piece}
-use Rattle.lists.specs.PartsLaws.{filled, put_is}
+use Rattle.std.proofs.lemmas.Slice.{put_mid-paste}
+use Rattle.lists.specs.PartsLaws.{filled}
 
 -- first the type and the length, in four bytes
 abbrev pub headed : List ℕ → List ℕ → ℕ → ℕ → List ℕ
 headed work text top kind =
     set (set (set (set work top (kind / 256)) (top + 1) (kind % 256)) (top + 2) (length text / 256)) (top + 3) (length text % 256)
 
-pub length_headed : (work text : List ℕ) (top kind : ℕ) → length (headed work text top kind) ≡ length work
+length_headed : (work text : List ℕ) (top kind : ℕ) → length (headed work text top kind) ≡ length work
 length_headed work text top kind = simp length-set
 
 module _ (work text : List ℕ) (top kind : ℕ) (room : top + head_bytes + length text ≤ length work) where
@@ -45,10 +46,8 @@ module _ (work text : List ℕ) (top kind : ℕ) (room : top + head_bytes + leng
 -- the area with the piece
 pub pasted :
     (work text last : List ℕ) (top kind : ℕ)
-    → top + head_bytes + length text ≤ length work
-    → last ≡ take (length text) text ++ drop (length text) (take (length (headed work text top kind) - (top + head_bytes)) (drop (top + head_bytes) (headed work text top kind)))
-    → put_mid (top + head_bytes) (length (headed work text top kind) - (top + head_bytes)) (headed work text top kind) last
+    → last ≡ text
+    → put_mid (top + head_bytes) (top + head_bytes + length text - (top + head_bytes)) (headed work text top kind) last
     ≡ paste (headed work text top kind) (top + head_bytes) text (length text)
-pasted work text last top kind room e =
-    let w : List ℕ = headed work text top kind in
-    put_is w text last (top + head_bytes) (length w - (top + head_bytes)) (omega (arith, length_headed work text top kind)) e
+pasted work text last top kind e =
+    put_mid-paste (top + head_bytes) (top + head_bytes + length text - (top + head_bytes)) (headed work text top kind) last text (length text) e (omega arith) refl

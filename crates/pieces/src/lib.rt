@@ -1,5 +1,6 @@
 // The piece of a node in its parent's prelabel: "type in two bytes, label length in two bytes, most significant first, then the label".
 #![tactic(auto)]
+
 ghost use Rattle.std.specs.Prelude.{◌≡◌, ◌++◌, ◌+◌, ◌^◌, ◌≤◌, ◌<◌, length, take};
 ghost use Rattle.trees.specs.Nodes.{head_bytes, piece};
 
@@ -16,6 +17,6 @@ pub fn put(kind: usize, text: &[u8], at: usize, work: &mut [u8]) -> usize
     work[at + 2] = (size / 256) as u8;
     work[at + 3] = (size % 256) as u8;
     let from = at + HEAD;
-    lists::copy(text, &mut work[from..]);
+    work[from..from + size].copy_from_slice(text);
     from + size
 }

@@ -6,7 +6,7 @@ use native.Mathlib.Nat.{zero-add, suc-add}
 use native.Mathlib.Numerals.{add-one}
 use native.Mathlib.Omega.{arith}
 use lib.ListN.{length, take, drop, get_or, set, replicate, length-set, length-append, length-drop}
-use lib.Seq.{take-suc, take-append-add, take_all, take-length, set_at, append_snoc, paste, take-paste}
+use lib.Seq.{take-suc, take-append-add, take_all, set_at, append_snoc, paste, take-paste}
 use Rattle.words.specs.Words.{bytes, spread}
 use Rattle.words.specs.Sha256.{sha256}
 use Rattle.sha256.specs.Padding.{closing}
@@ -78,14 +78,14 @@ pub closing_laid :
     → rest ≡ length last
     → rest + 9 ≤ end
     → end ≤ 128
-    → area ≡ set (take (length last) last ++ drop (length last) (blank 128)) rest 128
+    → area ≡ set (last ++ drop rest (blank 128)) rest 128
     → field ≡ bytes 8 bits
     → laid ≡ paste area (end - 8) field (length field)
     → take end laid ≡ closing sha256 last (end - rest - 9) bits
 unfolding closing
 closing_laid last area laid field rest bits end e few most qa pb pl =
     let pa : area ≡ set (last ++ drop (length last) (blank 128)) (length last) 128 =
-    qa ∙ rw (e, take-length) in
+    qa ∙ rw e in
     let k : ℕ = end - rest - 9 in
     let is : area ≡ (last ++ (0x80 ∷ [])) ++ blank (127 - length last) = marked last area (omega arith) pa in
     let eight : length field ≡ 8 = ap length pb ∙ length_bytes 8 bits in

@@ -38,8 +38,8 @@ blocks_taken t = omega (arith, padded_long t)
 pub one_block : (t : List ℕ) → length t ≡ 55 → blocks sha256 t ≡ 1
 one_block t e = omega (arith, blocks_taken t)
 
-pub two_blocks_lem : (t : List ℕ) → length t ≡ 56 → blocks sha256 t ≡ 2
-two_blocks_lem t e = omega (arith, blocks_taken t)
+pub two_blocks : (t : List ℕ) → length t ≡ 56 → blocks sha256 t ≡ 2
+two_blocks t e = omega (arith, blocks_taken t)
 
 -- Every element is a byte.
 unfoldable pub Octets : List ℕ → Type 0

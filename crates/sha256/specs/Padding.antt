@@ -1,5 +1,5 @@
 -- FIPS 180-4, section 5.1: padding the message, and how many blocks that makes.
-use Rattle.std.specs.Prelude.{ℕ, ◌+◌, ◌-◌, ◌*◌, ◌/◌, ◌%◌, List, [], ◌∷◌, ◌++◌, length, replicate}
+use Rattle.std.specs.Prelude.{ℕ, ◌-◌, ◌*◌, ◌/◌, ◌%◌, List, [], ◌∷◌, ◌++◌, length, replicate}
 use Rattle.words.specs.Kind.{Kind, size}
 use Rattle.words.specs.Words.{bytes}
 

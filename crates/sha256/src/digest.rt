@@ -6,7 +6,7 @@ ghost use Rattle.sha256.specs.Running.{Holds, Grows, Ends};
 use crate::{octets, padding};
 
 // The hash value after the text's whole blocks, a tail that begins with what is left of it, and its length.
-#[derive(Drop)]
+#[derive(Clone, Copy)]
 pub struct Digest {
     pub state: [u32; 8],
     pub tail: [u8; 64],
@@ -19,7 +19,7 @@ fn filled(tail: [u8; 64], at: usize, part: &[u8]) -> [u8; 64]
     ensures { result ≡ paste tail at part.now (length part.now) }
 {
     let mut t = tail;
-    bytes::copy(part, &mut t[at..]);
+    t[at..at + part.len()].copy_from_slice(part);
     t
 }
 

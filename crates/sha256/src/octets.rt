@@ -38,7 +38,7 @@ pub(crate) fn spread(h: [u32; 8]) -> [u8; 32]
     while i < 8 {
         let at = 4 * i;
         let four = word_octets(h[i]);
-        bytes::copy(&four, &mut out[at..]);
+        out[at..at + 4].copy_from_slice(&four);
         i += 1;
     }
     out

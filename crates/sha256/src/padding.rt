@@ -19,10 +19,10 @@ pub(crate) fn closed(tail: [u8; 64], rest: usize, end: usize, bits: u64) -> [u8;
     ensures { take end result ≡ closing sha256 (take rest tail) (end - rest - 9) bits }
 {
     let mut area = [0u8; 128];
-    bytes::copy(&tail[..rest], &mut area);
+    area[..rest].copy_from_slice(&tail[..rest]);
     area[rest] = 0x80;
     let at = end - 8;
     let length = octets::field(bits);
-    bytes::copy(&length, &mut area[at..]);
+    area[at..end].copy_from_slice(&length);
     area
 }

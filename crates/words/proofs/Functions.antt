@@ -1,25 +1,11 @@
--- Laws of the word functions.
-use Prim.Native.Nat.{ℕ, suc, ◌+◌, ◌*◌, ◌/◌, ◌^◌, ◌≤◌, ◌<◌}
+-- Laws of the words of a text.
+use Prim.Native.Nat.{ℕ, suc, ◌+◌, ◌*◌, ◌≤◌, ◌<◌}
 use mathlib.Core.Path.{◌≡◌, sym, ap, ◌∙◌}
 use mathlib.Core.List.{List, [], ◌∷◌}
 use native.Mathlib.Omega.{arith}
-use lib.Bits.{bit_xor}
 use lib.ListN.{length, take, drop, get_or}
 use lib.Seq.{drop-cons}
-use Rattle.words.specs.Words.{rotr, number}
-use Rattle.words.specs.Sha256.{three, two}
-
--- three rotations, and two with a shift
-pub three_is :
-    (i j k x : ℕ) {a b c : ℕ}
-    → a ≡ rotr 32 i x
-    → b ≡ rotr 32 j x
-    → c ≡ rotr 32 k x
-    → bit_xor (bit_xor a b) c ≡ three i j k x
-three_is i j k x p q r = rw (p, q, r)
-
-pub two_is : (i j k x : ℕ) {a b : ℕ} → a ≡ rotr 32 i x → b ≡ rotr 32 j x → bit_xor (bit_xor a b) (x / 2 ^ k) ≡ two i j k x
-two_is i j k x p q = rw (p, q)
+use Rattle.words.specs.Words.{number}
 
 -- a part of one more element
 part_suc :

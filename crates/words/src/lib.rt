@@ -1,5 +1,6 @@
 // The words of SHA-256: FIPS 180-4, the functions of sections 3.2 and 4.1.2 and the constants of 4.2.2.
 #![tactic(auto)]
+
 ghost use Rattle.std.specs.Prelude.{◌≡◌, ◌+◌, ◌≤◌, ◌<◌, length, take, drop};
 ghost use Rattle.words.specs.Words.{ch, maj, number};
 ghost use Rattle.words.specs.Words as Words;

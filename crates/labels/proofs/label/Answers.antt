@@ -1,0 +1,8 @@
+use mathlib.Core.List.{[]}
+use native.Mathlib.Omega.{arith}
+use Rattle.labels.proofs.label.Goals as goal
+
+pub finish-requires : goal.finish-requires
+finish-requires c =
+    let held = c.absorbed.ensures [] c.new.ensures in
+    omega arith

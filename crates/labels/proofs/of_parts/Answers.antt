@@ -1,0 +1,17 @@
+use mathlib.Core.List.{[]}
+use lib.ListN.{length-append}
+use native.Mathlib.Omega.{arith}
+use Rattle.labels.proofs.of_parts.Goals as goal
+
+pub absorbed-requires-2 : goal.absorbed-requires-2
+absorbed-requires-2 c =
+    let held = c.absorbed.ensures [] c.new.ensures in
+    omega arith
+
+pub finish-requires : goal.finish-requires
+finish-requires c =
+    let held = c.absorbed-2.ensures _ (c.absorbed.ensures [] c.new.ensures) in
+    omega (arith, simp length-append at held.long)
+
+pub returns : goal.returns
+returns c = c.finish.ensures _ (c.absorbed-2.ensures _ (c.absorbed.ensures [] c.new.ensures))
