@@ -7,11 +7,11 @@ use Rattle.nfc.specs.Cons.{head}
 use Rattle.nfc.specs.Utf8.{ill, within, scalar, scalars, width, encode, encodes, front, decode}
 use Rattle.nfc.specs.Repertoire.{member, marks, is_mark, plain, in_repertoire, all_in}
 use Rattle.nfc.specs.Joining.{joined, one, clusters, none_bad, accepts}
-use Rattle.nfc.specs.SequencesLaws.{front_starts}
+use Rattle.nfc.proofs.SequencesLaws.{front_starts}
 use Rattle.nfc.specs.EncodingsLaws.{front_encode}
-use Rattle.nfc.specs.DecodingLaws.{length_encode, decode-next, decode_end, decode_append, decode_encodes, ill_formed_none, behind}
-use Rattle.nfc.specs.Composition.{letter_plain, joins_mark, clusters_join}
-use Rattle.nfc.specs.NfcTheorem.{accepts_in, mark_in}
+use Rattle.nfc.proofs.DecodingLaws.{length_encode, decode-next, decode_end, decode_append, decode_encodes, ill_formed_none, behind}
+use Rattle.nfc.proofs.Composition.{letter_plain, joins_mark, clusters_join}
+use Rattle.nfc.proofs.NfcTheorem.{accepts_in, mark_in}
 use Rattle.titles.specs.Compose.{text, fault, refusal, answer_from, compose_of, max_title}
 use Rattle.titles.specs.Goes.{Wrong, broken, foreign, loose, FirstBad, Goes, long, wrong, short, taken}
 use Rattle.titles.specs.ComposeLaws as Outcomes

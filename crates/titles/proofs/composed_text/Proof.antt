@@ -8,8 +8,8 @@ use lib.ListN.{length, drop}
 use Rattle.nfc.specs.Utf8.{decode}
 use Rattle.nfc.specs.Repertoire.{all_plain}
 use Rattle.titles.specs.Compose.{composed_text}
-use Rattle.nfc.specs.MarksLaws.{plain_small}
-use Rattle.nfc.specs.DecodingLaws.{width_some}
+use Rattle.nfc.proofs.MarksLaws.{plain_small}
+use Rattle.nfc.proofs.DecodingLaws.{width_some}
 use Rattle.titles.specs.ClustersLaws.{plain_at, not_plain_at, all_plain_end, next_fits}
 use Rattle.titles.proofs.composed_text.Statement.{statement}
 use Rattle.titles.proofs.composed_text.Tie as tie

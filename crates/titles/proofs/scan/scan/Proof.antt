@@ -8,8 +8,8 @@ use borrow.Author.Tests.{not-true, not-false}
 use lib.ListN.{length}
 use Rattle.nfc.specs.Utf8.{width}
 use Rattle.nfc.specs.Repertoire.{plain}
-use Rattle.nfc.specs.MarksLaws.{plain_small}
-use Rattle.nfc.specs.DecodingLaws.{width_some}
+use Rattle.nfc.proofs.MarksLaws.{plain_small}
+use Rattle.nfc.proofs.DecodingLaws.{width_some}
 use Rattle.titles.specs.Compose.{answer_from}
 use Rattle.titles.specs.ComposeLaws.{fault_some}
 use Rattle.titles.specs.ClustersLaws.{next_fits}

@@ -8,9 +8,9 @@ use Rattle.nfc.specs.Repertoire.{is_mark, plain}
 use Rattle.nfc.specs.Decompositions.{decompositions}
 use Rattle.nfc.specs.Nfc.{parts, decomposed, composite}
 use Rattle.nfc.specs.Joining.{joined}
-use Rattle.nfc.specs.PairsLaws.{latin, Made, joint, decomposes, stays}
-use Rattle.nfc.specs.MarksLaws.{mark_no_whole}
-use Rattle.nfc.specs.Composition.{Composes, done, stay, join, letter_plain, whole_plain, joins_mark, starts}
+use Rattle.nfc.proofs.PairsLaws.{latin, Made, joint, decomposes, stays}
+use Rattle.nfc.proofs.MarksLaws.{mark_no_whole}
+use Rattle.nfc.proofs.Composition.{Composes, done, stay, join, letter_plain, whole_plain, joins_mark, starts}
 
 -- a plain character that is taken apart is a letter and a mark that join to it
 plain_joins : (l m c : ℕ) → plain c ≡ true → Made l m c → joined l m ≡ c

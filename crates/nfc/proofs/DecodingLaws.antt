@@ -5,7 +5,7 @@ use Rattle.std.proofs.lemmas.Bool.{not-true}
 use Rattle.nfc.specs.Cons.{head, tail}
 use Rattle.lists.specs.TestsLaws.{and_left, and_right, and_both, either, clash}
 use Rattle.nfc.specs.Utf8.{ill, scalar, scalars, well_formed, width, encode, encodes, front, chars, decode}
-use Rattle.nfc.specs.SequencesLaws.{front_starts}
+use Rattle.nfc.proofs.SequencesLaws.{front_starts}
 use Rattle.nfc.specs.EncodingsLaws.{scalar_below, front_encode}
 
 pub width_some : (c : ℕ) → 1 ≤ width c

@@ -5,8 +5,8 @@ use Rattle.std.proofs.Common.{◌∙◌, ap, arith, lt-ltb, ltb-true}
 use Rattle.lists.specs.TestsLaws.{and_left, and_right, either, clash}
 use Rattle.nfc.specs.Repertoire.{plain}
 use Rattle.nfc.specs.Nfc.{class_of, reorderable, moved, ordered}
-use Rattle.nfc.specs.MarksLaws.{plain_class}
-use Rattle.nfc.specs.Composition.{Composes, done, stay, join, letter_plain}
+use Rattle.nfc.proofs.MarksLaws.{plain_class}
+use Rattle.nfc.proofs.Composition.{Composes, done, stay, join, letter_plain}
 
 -- a character of a class above 0, which a starter has not
 unfoldable pub classed : ℕ → Bool

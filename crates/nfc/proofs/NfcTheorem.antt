@@ -5,11 +5,11 @@ use Rattle.lists.specs.TestsLaws.{and_right, and_both, same_test}
 use Rattle.nfc.specs.Repertoire.{is_mark, plain, all_plain, in_repertoire, all_in}
 use Rattle.nfc.specs.Nfc.{decomposed, ordered, composed_from, nfc}
 use Rattle.nfc.specs.Joining.{accepts, composed}
-use Rattle.nfc.specs.MarksLaws.{mark_not_plain}
-use Rattle.nfc.specs.Composition.{Composes, done, stay, join, letter_plain, joins_mark, accepts_composes, composes_accepts, composes_composed, composes_plain, plain_composes}
-use Rattle.nfc.specs.DecompositionLaws.{decomposed_composes, composes_decomposed}
-use Rattle.nfc.specs.OrderLaws.{ordered_same, composes_apart, apart_ordered}
-use Rattle.nfc.specs.CompositionLaws.{from_composes, composes_from}
+use Rattle.nfc.proofs.MarksLaws.{mark_not_plain}
+use Rattle.nfc.proofs.Composition.{Composes, done, stay, join, letter_plain, joins_mark, accepts_composes, composes_accepts, composes_composed, composes_plain, plain_composes}
+use Rattle.nfc.proofs.DecompositionLaws.{decomposed_composes, composes_decomposed}
+use Rattle.nfc.proofs.OrderLaws.{ordered_same, composes_apart, apart_ordered}
+use Rattle.nfc.proofs.CompositionLaws.{from_composes, composes_from}
 
 -- the NFC of a text that composes is what it composes to
 composes_nfc : {cs os : List ℕ} → Composes cs os → nfc cs ≡ os

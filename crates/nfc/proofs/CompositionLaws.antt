@@ -6,9 +6,9 @@ use Rattle.nfc.specs.Repertoire.{plain, all_plain}
 use Rattle.nfc.specs.Pairs.{pairs}
 use Rattle.nfc.specs.Nfc.{class_of, blocked, composite, composing, composed_from}
 use Rattle.nfc.specs.Joining.{joined}
-use Rattle.nfc.specs.PairsLaws.{latin, no_letter, joint, composed_told, joinless}
-use Rattle.nfc.specs.MarksLaws.{plain_class}
-use Rattle.nfc.specs.Composition.{Composes, done, stay, join, letter_plain, starts}
+use Rattle.nfc.proofs.PairsLaws.{latin, no_letter, joint, composed_told, joinless}
+use Rattle.nfc.proofs.MarksLaws.{plain_class}
+use Rattle.nfc.proofs.Composition.{Composes, done, stay, join, letter_plain, starts}
 
 -- a composite is a pair's, or one outside U+00C0 to U+00FF
 composite-cases :

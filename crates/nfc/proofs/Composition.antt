@@ -4,8 +4,8 @@ use Rattle.std.specs.Prelude.{◌≡◌, refl, true, false, List, [], ◌∷◌,
 use Rattle.lists.specs.TestsLaws.{and_left, and_right, and_both, either, clash}
 use Rattle.nfc.specs.Repertoire.{is_mark, plain, all_plain}
 use Rattle.nfc.specs.Joining.{joined, one, two, clusters, outs, none_bad, accepts, composed}
-use Rattle.nfc.specs.PairsLaws.{joint}
-use Rattle.nfc.specs.MarksLaws.{plain_no_mark, ascii_plain, latin_plain}
+use Rattle.nfc.proofs.PairsLaws.{joint}
+use Rattle.nfc.proofs.MarksLaws.{plain_no_mark, ascii_plain, latin_plain}
 
 pub data Composes : List ℕ → List ℕ → Type 0 where
   done : Composes [] []

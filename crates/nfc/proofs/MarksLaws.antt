@@ -8,7 +8,7 @@ use Rattle.nfc.specs.Repertoire.{member, marks, is_mark, plain}
 use Rattle.nfc.specs.Decompositions.{Class, class, decompositions, classes}
 use Rattle.nfc.specs.Nfc.{class_in, class_of}
 use Rattle.nfc.specs.BoundsLaws.{at_least, at_most, inside}
-use Rattle.nfc.specs.PairsLaws.{each, no_whole}
+use Rattle.nfc.proofs.PairsLaws.{each, no_whole}
 
 -- a test passes at each character of a list
 unfoldable every : (ℕ → Bool) → List ℕ → Bool
