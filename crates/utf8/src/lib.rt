@@ -15,6 +15,7 @@ fn byte(s: &[u8], i: usize) -> u32
 }
 
 // The bounds of the second byte after the first byte `a`.
+#[tactic(auto, unfolding(nfc::specs::Utf8::low))]
 fn low_of(a: u32) -> u32
     ensures { (result ≡ low a) × (0x80 ≤ result) }
 {
@@ -25,6 +26,7 @@ fn low_of(a: u32) -> u32
     }
 }
 
+#[tactic(auto, unfolding(nfc::specs::Utf8::high))]
 fn high_of(a: u32) -> u32
     ensures { (result ≡ high a) × (result ≤ 0xBF) }
 {
