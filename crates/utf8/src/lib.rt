@@ -1,5 +1,6 @@
 // UTF-8: the character at a place, a character's width, a character put into a buffer.
 #![tactic(auto)]
+
 ghost use Rattle.std.specs.Prelude.{◌≡◌, ◌+◌, ◌≤◌, ◌<◌, ◌++◌, length, take, drop, get_or};
 ghost use Rattle.nfc.specs.Utf8.{low, high, two_bytes, three_bytes, four_bytes, front, encode};
 ghost use Rattle.utf8.specs.Clauses.{Tested, At};
