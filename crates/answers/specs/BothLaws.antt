@@ -32,17 +32,17 @@ module _ (a b : Answer) where
 unfoldable pub both_by : Bool → Bool → Bool → Answer → Answer → Answer
 both_by one two differ a b = cond one (sided 1 a) (cond two (sided 2 b) (cond differ (refused roots_differ 0) a))
 
-told-by :
+told_by :
     (one two differ : Bool) (a b : Answer)
     → (one ≡ true → a.number ≡ accepted → ⊥)
     → (two ≡ true → b.number ≡ accepted → ⊥)
     → (both_by one two differ a b).number ≡ accepted
     → (one ≡ false) × (two ≡ false) × (differ ≡ false) × (both_by one two differ a b ≡ a)
 unfolding both_by
-told-by true two differ a b p q e = absurd (p refl e)
-told-by false true differ a b p q e = absurd (q refl e)
-told-by false false true a b p q e = absurd (omega (arith, e))
-told-by false false false a b p q e = (refl, refl, refl, refl)
+told_by true two differ a b p q e = absurd (p refl e)
+told_by false true differ a b p q e = absurd (q refl e)
+told_by false false true a b p q e = absurd (omega (arith, e))
+told_by false false false a b p q e = (refl, refl, refl, refl)
 
 -- what is not refused: two accepted slips with one root label
 pub record Told (a b : Answer) : Type 0 where
@@ -55,7 +55,7 @@ pub both_told : (a b : Answer) → (both_of a b).number ≡ accepted → Told a 
 unfolding both_of both_by
 both_told a b e =
     let t =
-    told-by (not (eqb a.number accepted)) (not (eqb b.number accepted)) (not (same a.label b.label)) a b
+    told_by (not (eqb a.number accepted)) (not (eqb b.number accepted)) (not (same a.label b.label)) a b
     (λ q. eqb-false a.number accepted (not-true (eqb a.number accepted) q)) (λ q. eqb-false b.number accepted (not-true (eqb b.number accepted) q)) e in
     record {
       one = eqb-true a.number accepted (not-false (eqb a.number accepted) t.0);

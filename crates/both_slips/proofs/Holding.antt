@@ -65,11 +65,11 @@ module _ {u : List ℕ} {m first used : ℕ} {types counts lengths values labels
   labels_fit = record { fits = omega (arith, p.low) }
 
   -- the parts behind the first slip's are room enough
-  pub behind-lent :
+  pub behind_lent :
       OpenAsks u m (mid_of first (length types - first) types) (mid_of first (length counts - first) counts)
       (mid_of first (length lengths - first) lengths) (mid_of used (length values - used) values)
       (mid_of (label_bytes * first) (length labels - label_bytes * first) labels)
-  behind-lent =
+  behind_lent =
       record {
         head = p.is.head;
         long = p.is.long;
@@ -173,10 +173,10 @@ module _ {s u : List ℕ} {a b : Opened} {types counts lengths area values label
       h.holds (front_part a.used y.values area (k.values_kept ∙ v) (sum (take a.rows lengths)) (omega (arith, o.used)))
       (front_part (label_bytes * a.rows) y.labels labels k.labels_kept (label_bytes * length (take a.rows types)) (omega (arith, few)))
 
-  two-held :
+  two_held :
       TwoTables Sha256.label (slip_tree s) (slip_tree u) a.rows (take (a.rows + b.rows) y.types) (take (a.rows + b.rows) y.counts)
       (take (a.rows + b.rows) y.lengths) y.values y.labels
-  two-held =
+  two_held =
       record {
         one = rw (cut types y.types k.types_kept, cut counts y.counts k.counts_kept, cut lengths y.lengths k.lengths_kept) one;
         two =
@@ -199,5 +199,5 @@ module _ {s u : List ℕ} {a b : Opened} {types counts lengths area values label
         lengths_room = n;
         alike = record { types = x.well.root ∙ sym z.well.root; labels = sym root ∙ l ∙ root2 };
         labelled = sym root ∙ ap (λ (q : Answer). q.label) (sym g);
-        two = two-held;
+        two = two_held;
       }

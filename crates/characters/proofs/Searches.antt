@@ -19,12 +19,12 @@ pub member_end : (s : List ℕ) (i c : ℕ) → length s ≤ i → member (drop 
 unfolding member
 member_end s i c h = rw (drop_of_length-le s h)
 
-pub sought-next :
+pub sought_next :
     (t : List ℕ) (i l m : ℕ)
     → i + 2 < length t
     → sought (drop i t) l m ≡ cond (eqb (get_or t (i + 1) 0) m && eqb (get_or t i 0) l) (get_or t (i + 2) 0) (sought (drop (i + 3) t) l m)
 unfolding sought
-sought-next t i l m h =
+sought_next t i l m h =
     let two : (i + 1) + 1 ≡ i + 2 = omega arith in
     let three : (i + 2) + 1 ≡ i + 3 = omega arith in
     rw (next-cons t i 0 (omega arith), next-cons t (i + 1) 0 (omega arith), two, next-cons t (i + 2) 0 h, three)

@@ -36,7 +36,7 @@ unfolding round
 round_is v k w p q r s = rw (r, s, p, q)
 
 -- one word of the schedule, from what the code's steps give
-pub following-is :
+pub following_is :
     (w : List ℕ) (t : ℕ) {near far s1 s0 r : ℕ}
     → s1 ≡ two 17 19 10 (get_or w (t - 2) 0)
     → near ≡ plus 32 s1 (get_or w (t - 7) 0)
@@ -44,7 +44,7 @@ pub following-is :
     → far ≡ plus 32 near s0
     → r ≡ plus 32 far (get_or w (t - 16) 0)
     → set w t r ≡ set w t (following sha256 w t)
-following-is w t a b c d e = rw (e, d, c, b, a)
+following_is w t a b c d e = rw (e, d, c, b, a)
 
 -- the next word looks only at those before it
 following_take : (w : List ℕ) (t : ℕ) → 16 ≤ t → following sha256 w t ≡ following sha256 (take t w) t
@@ -61,7 +61,7 @@ abbrev pub Begins : List ℕ → ℕ → List ℕ → Type 0
 Begins m t w = (16 ≤ t) × (length w ≡ 64) × (take t w ≡ schedule sha256 (t - 16) m)
 
 -- one word more
-pub schedule-more :
+pub schedule_more :
     (m : List ℕ) (t after : ℕ) (w u : List ℕ)
     → t < 64
     → after ≡ suc t
@@ -69,7 +69,7 @@ pub schedule-more :
     → u ≡ set w t (following sha256 w t)
     → Begins m after u
 unfolding schedule
-schedule-more m t after w u few e (from, room, p) q =
+schedule_more m t after w u few e (from, room, p) q =
     let n : after - 16 ≡ suc (t - 16) = omega arith in
     let at : 16 + (t - 16) ≡ t = omega arith in
     let same : following sha256 w t ≡ following sha256 (schedule sha256 (t - 16) m) t =
@@ -80,7 +80,7 @@ schedule-more m t after w u few e (from, room, p) q =
     )
 
 -- one round more, with the constants as the code has them
-pub rounds-more :
+pub rounds_more :
     (h w : List ℕ) {k : List ℕ}
     → k ≡ constants
     → (t after : ℕ) (v u : List ℕ)
@@ -90,7 +90,7 @@ pub rounds-more :
     → u ≡ round sha256 v (get_or k t 0) (get_or w t 0)
     → u ≡ rounds sha256 after h w
 unfolding rounds
-rounds-more h w c t after v u few e p q = rw (e, q, p, c)
+rounds_more h w c t after v u few e p q = rw (e, q, p, c)
 
 -- What each step keeps, a turn of eight keeps: the schedule and the rounds go eight a turn.
 pub eight :
@@ -134,14 +134,14 @@ pub added_more :
 unfolding added
 added_more h v sum i {x} here p e = filled sum i (i + 1) x here (omega arith) p ∙ rw (add-one, e)
 
-pub compress-is :
+pub compress_is :
     (h block : List ℕ) {w v r : List ℕ}
     → w ≡ scheduled sha256 block
     → v ≡ rounds sha256 64 h w
     → r ≡ added sha256 8 h v
     → r ≡ compress sha256 h block
 unfolding compress constants
-compress-is h block p q r = rw (r, q, p)
+compress_is h block p q r = rw (r, q, p)
 
 -- one block more
 pub chain_more :

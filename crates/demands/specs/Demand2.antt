@@ -20,7 +20,7 @@ use Rattle.nfc.specs.Utf8.{encodes, decode}
 use Rattle.nfc.specs.Repertoire.{all_plain, all_in}
 use Rattle.nfc.specs.Nfc.{nfc}
 use Rattle.titles.specs.Compose.{composed_text, accepted_with, compose_of}
-use Rattle.titles.specs.TitleTheorems.{title-nfc, accepted-nfc, equal-nfc}
+use Rattle.titles.specs.TitleTheorems.{title_nfc, accepted_nfc, equal_nfc}
 use Rattle.answers.specs.Answers.{taken}
 use Rattle.slips.specs.Check.{count_of, check_of}
 use Rattle.outcomes.specs.Outcome.{over}
@@ -101,17 +101,17 @@ table_labels_told n room w = pack_tree Sha256.label composed_text n room w
 -- where `nfc` is Unicode's, and is written in NFC
 pub nfc_stored : (title out : List ℕ) → (compose_of title out).answer.number ≡ accepted
     → (all_in (decode title) ≡ true) × (all_plain (nfc (decode title)) ≡ true) × (compose_of title out ≡ accepted_with (encodes (nfc (decode title))) out)
-nfc_stored title out e = accepted-nfc title out e
+nfc_stored title out e = accepted_nfc title out e
 
 -- a title of the repertoire, within the limit, whose NFC is composed text is accepted where that has room
 pub nfc_accepted : (title out : List ℕ) → length title ≤ Titles.max_title → all_in (decode title) ≡ true → all_plain (nfc (decode title)) ≡ true
     → length (encodes (nfc (decode title))) ≤ length out → compose_of title out ≡ accepted_with (encodes (nfc (decode title))) out
-nfc_accepted title out under known plain room = title-nfc title out under known plain room
+nfc_accepted title out under known plain room = title_nfc title out under known plain room
 
 -- so É as one letter and as E and a mark are stored alike
 pub nfc_alike : (x y out : List ℕ) → length x ≤ Titles.max_title → length y ≤ Titles.max_title → all_in (decode y) ≡ true
     → nfc (decode x) ≡ nfc (decode y) → (compose_of x out).answer.number ≡ accepted → compose_of y out ≡ compose_of x out
-nfc_alike x y out ux uy known e z = equal-nfc x y out ux uy known e z
+nfc_alike x y out ux uy known e z = equal_nfc x y out ux uy known e z
 
 -- "A table packed and unpacked is the same table": what the packer writes, unpacked into buffers with room, gives the packer's answer, and
 -- the table stands in the buffers

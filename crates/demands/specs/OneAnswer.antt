@@ -31,12 +31,12 @@ module _ (s u list out : List ℕ) {r q : Answer} where
     pub pack_one : (t : Table) → Leaves (pack_of Sha256.label composed_text t out) r a → Leaves (pack_of Sha256.label composed_text t out) q b → (r ≡ q) × (a ≡ b)
     pack_one t e f = leaves_one e f
 
-  pub unpack-one :
+  pub unpack_one :
       (b : Table) {t c l v t' c' l' v' : List ℕ}
       → Leaves (unpack_of Sha256.label composed_text s b) r (table t c l v)
       → Leaves (unpack_of Sha256.label composed_text s b) q (table t' c' l' v')
       → (r ≡ q) × (t ≡ t') × (c ≡ c') × (l ≡ l') × (v ≡ v')
-  unpack-one b e f =
+  unpack_one b e f =
       let x = leaves_one e f in
       (x.0, ap (λ (y : Table). y.types) x.1, ap (λ (y : Table). y.counts) x.1, ap (λ (y : Table). y.lengths) x.1, ap (λ (y : Table). y.values) x.1)
 

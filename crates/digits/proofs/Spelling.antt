@@ -35,7 +35,7 @@ module _ (l : List ℕ) (i : ℕ) (there : 2 * i + 1 < length l) where
   hex_more g h = ap is_hex two_more ∙ picks _ false (le-ltb 15 _ g) _ ∙ picks _ false (le-ltb 15 _ h) _
 
   -- the byte put down
-  pub bytes-more :
+  pub bytes_more :
       (out : List ℕ) (x y : ℕ)
       → x ≡ digit_of (get_or l (2 * i) 0)
       → y ≡ digit_of (get_or l (2 * i + 1) 0)
@@ -43,7 +43,7 @@ module _ (l : List ℕ) (i : ℕ) (there : 2 * i + 1 < length l) where
       → take i out ++ bytes_of (drop (2 * i) l) ≡ bytes_of l
       → take (i + 1) (set out i (16 * x + y)) ++ bytes_of (drop (2 * (i + 1)) l) ≡ bytes_of l
   unfolding bytes_of
-  bytes-more out x y first second room e =
+  bytes_more out x y first second room e =
       let v : ℕ = 16 * digit_of (get_or l (2 * i) 0) + digit_of (get_or l (2 * i + 1) 0) in
       let is : 16 * x + y ≡ v = omega (arith, first, second) in
       let left : List ℕ = bytes_of (drop (2 * (i + 1)) l) in

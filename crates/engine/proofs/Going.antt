@@ -82,7 +82,7 @@ pub record Turn (types counts lengths values kinds₀ heights₀ sizes₀ work�
   pub going : Going types counts lengths values i at s kinds heights sizes work labels
 
 -- the areas keep their room
-pub lent-kept :
+pub lent_kept :
     (types counts lengths values : List ℕ) {kinds heights sizes work labels : List ℕ} (kinds' heights' sizes' work' labels' : List ℕ)
     → JudgeInAsks types counts lengths values kinds heights sizes work labels
     → length kinds' ≡ length kinds
@@ -91,7 +91,7 @@ pub lent-kept :
     → length work' ≡ length work
     → length labels' ≡ length labels
     → JudgeInAsks types counts lengths values kinds' heights' sizes' work' labels'
-lent-kept types counts lengths values kinds' heights' sizes' work' labels' g ek eh es ew el =
+lent_kept types counts lengths values kinds' heights' sizes' work' labels' g ek eh es ew el =
     record {
       given = record { form = g.given.form; short = g.given.short; labels_room = omega arith };
       kinds_room = omega arith;

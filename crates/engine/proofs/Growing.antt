@@ -107,10 +107,10 @@ module _ (composed : List ℕ → Bool) (st : List Tag) (w : all whole st ≡ tr
       let g : Tag = record { kind = t; height = 1; text = v } in
       all_append whole st (g ∷ []) w (and_both (whole g) true (leaf_whole t v f) refl)
 
-  pub after-long :
+  pub after_long :
       (e : Entry) → formed e ≡ true → step_fault (step_of Sha256.label composed st e) ≡ 0
       → length (pieces (after Sha256.label st e)) ≤ length (pieces st) + head_bytes + bytes_of e
-  after-long (node k) f z =
+  after_long (node k) f z =
       let gs : List Tag = kids k st in
       let n : Kept st k = kept Sha256.label composed st k z in
       let some : 1 ≤ k = leb-true 1 k (and_left (leb 1 k) (leb k max_children) f) in
@@ -122,7 +122,7 @@ module _ (composed : List ℕ → Bool) (st : List Tag) (w : all whole st ≡ tr
         kids_long gs m (all_drop whole (length st - k) st w) n.salt,
         length_split k st,
       )
-  after-long (tip t v) f z = omega (arith, length_more st (record { kind = t; height = 1; text = v }))
+  after_long (tip t v) f z = omega (arith, length_more st (record { kind = t; height = 1; text = v }))
 
   pub entry_sound : (e : Entry) → formed e ≡ true → step_fault (step_of Sha256.label composed st e) ≡ 0 → Sound st e
   entry_sound (node k) f z = let n : Kept st k = kept Sha256.label composed st k z in (n.there, n.low)

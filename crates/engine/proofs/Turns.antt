@@ -20,7 +20,7 @@ use Rattle.stack.specs.Areas.{after, cost, Laid, GrowAsks, GrowGives}
 use Rattle.engine.specs.declared.judge.Judged.{Judged}
 use Rattle.stack.specs.declared.Stack.{Stack}
 use Rattle.faults.specs.Steps.{stops}
-use Rattle.engine.proofs.Growing.{whole, whole_long, bytes_of, after_whole, after-long, after_deep, after_cost, entry_sound, goes_on}
+use Rattle.engine.proofs.Growing.{whole, whole_long, bytes_of, after_whole, after_long, after_deep, after_cost, entry_sound, goes_on}
 use Rattle.engine.proofs.Entries.{row_formed, row_small, entries_next, entries_end, row_fits_lem, sum_next}
 use Rattle.engine.proofs.Noting.{noted_next}
 use Rattle.engine.proofs.Going.{rest, Going}
@@ -32,18 +32,18 @@ bytes_most t zero v = omega arith
 bytes_most t (suc c) v = omega arith
 
 -- a root that waits alone has a whole label
-root-long :
+root_long :
     {d top : ℕ} (st : List Tag) {kinds heights sizes work : List ℕ}
     → Laid st d top kinds heights sizes work
     → all whole st ≡ true
     → d ≡ 1
     → get_or kinds 0 0 ≡ 0
     → top ≡ head_bytes + label_bytes
-root-long [] l w one z = absurd (omega (arith, l.deep))
-root-long {d} (g ∷ []) {kinds} l w one z =
+root_long [] l w one z = absurd (omega (arith, l.deep))
+root_long {d} (g ∷ []) {kinds} l w one z =
     let kind : g.kind ≡ 0 = first_cell g kinds one l.columns.kinds_are ∙ z in
     omega (arith, whole_long g (and_left (whole g) true w) kind, l.full, length-append (piece (head_of g)) [])
-root-long (g ∷ (h ∷ gs)) l w one z = absurd (omega (arith, l.deep))
+root_long (g ∷ (h ∷ gs)) l w one z = absurd (omega (arith, l.deep))
 
 module _ (types counts lengths values : List ℕ) (i at : ℕ) {s : Stack} {kinds heights sizes work labels : List ℕ}
     (g : JudgeInAsks types counts lengths values kinds heights sizes work labels)
@@ -141,7 +141,7 @@ module _ (types counts lengths values : List ℕ) (i at : ℕ) {s : Stack} {kind
               work_room =
                   omega (
                     arith,
-                    after-long composed_text w.st w.whole_labels entry entry_formed (sym z),
+                    after_long composed_text w.st w.whole_labels entry entry_formed (sym z),
                     w.laid.full,
                     w.low,
                     bytes_most kind count value,
@@ -191,7 +191,7 @@ module _ (types counts lengths values : List ℕ) (i at : ℕ) {s : Stack} {kind
               low =
                   omega (
                     arith,
-                    after-long composed_text w.st w.whole_labels entry entry_formed (sym z),
+                    after_long composed_text w.st w.whole_labels entry entry_formed (sym z),
                     n.laid.full,
                     w.laid.full,
                     w.low,
@@ -233,5 +233,5 @@ module _ (types counts lengths values : List ℕ) (i at : ℕ) {s : Stack} {kind
           record {
             kinds_room = omega (arith, g.kinds_room, w.few);
             work_room = omega (arith, g.work_room, w.low, w.used);
-            root = root-long w.st w.laid w.whole_labels;
+            root = root_long w.st w.laid w.whole_labels;
           }

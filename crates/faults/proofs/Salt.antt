@@ -104,14 +104,14 @@ salted_is g gs =
         ∙ bare (none (map head_of gs)) (salt_long (map head_of gs)) (low (map head_of gs)) l (none_long (map head_of gs))
 
 -- over any columns that hold the children's
-pub keeps-salted :
+pub keeps_salted :
     {kinds sizes : List ℕ} (gs : List Tag)
     → 0 < length kinds
     → kinds ≡ map kind_of gs
     → sizes ≡ map size_of gs
     → keeps kinds sizes ≡ salted (map head_of gs)
-keeps-salted [] h p q = absurd (omega (arith, ap length p))
-keeps-salted (g ∷ gs) h p q = ap₂ keeps p q ∙ salted_is g gs
+keeps_salted [] h p q = absurd (omega (arith, ap length p))
+keeps_salted (g ∷ gs) h p q = ap₂ keeps p q ∙ salted_is g gs
 
 -- the first child
 module _ (kinds sizes : List ℕ) {first size : ℕ} (f : first ≡ get_or kinds 0 0) (s : size ≡ get_or sizes 0 0) where
@@ -129,25 +129,25 @@ module _ (kinds sizes : List ℕ) {first size : ℕ} (f : first ≡ get_or kinds
 
 -- a later child, of type k, where the first is of type `first`
 module _ (kinds : List ℕ) (i first : ℕ) {k : ℕ} (h : i < length kinds) (e : k ≡ get_or kinds i 0) where
-  later-next :
+  later_next :
       (salt : Bool) → later salt (drop i kinds) ≡ not (eqb k salt_type) && (salt || leb k salt_type) && later salt (drop (i + 1) kinds)
   unfolding later
-  later-next salt = rw (next-cons kinds i 0 h, e)
+  later_next salt = rw (next-cons kinds i 0 h, e)
 
   pub second_salt : k ≡ salt_type → later (eqb first salt_type) (drop i kinds) ≡ false
-  second_salt q = later-next (eqb first salt_type) ∙ rw (eq-eqb k salt_type q)
+  second_salt q = later_next (eqb first salt_type) ∙ rw (eq-eqb k salt_type q)
 
   pub unsalted : (first ≡ salt_type → ⊥) → ltb salt_type k ≡ true → later (eqb first salt_type) (drop i kinds) ≡ false
   unsalted n q =
       let m : leb k salt_type ≡ false = lt-leb k salt_type (ltb-true salt_type k q) in
-      later-next (eqb first salt_type) ∙ rw (ne_eqb first salt_type n, m, and_false (not (eqb k salt_type)))
+      later_next (eqb first salt_type) ∙ rw (ne_eqb first salt_type n, m, and_false (not (eqb k salt_type)))
 
   pub behind_salt_on : (k ≡ salt_type → ⊥) → first ≡ salt_type → later (eqb first salt_type) (drop i kinds) ≡ later (eqb first salt_type) (drop (i + 1) kinds)
-  behind_salt_on n q = later-next (eqb first salt_type) ∙ rw (ne_eqb k salt_type n, eq-eqb first salt_type q)
+  behind_salt_on n q = later_next (eqb first salt_type) ∙ rw (ne_eqb k salt_type n, eq-eqb first salt_type q)
 
   pub bare_on : (k ≡ salt_type → ⊥) → ltb salt_type k ≡ false → later (eqb first salt_type) (drop i kinds) ≡ later (eqb first salt_type) (drop (i + 1) kinds)
   bare_on n q =
-      later-next (eqb first salt_type)
+      later_next (eqb first salt_type)
       ∙ rw (ne_eqb k salt_type n, le-leb k salt_type (ltb-false salt_type k q), or_true (eqb first salt_type))
 
 -- no child is left

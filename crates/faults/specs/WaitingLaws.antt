@@ -16,10 +16,10 @@ pub columns_long : {st : List Tag} {kinds heights sizes : List ℕ} → StackCol
 columns_long {st} cols = sym (ap length cols.kinds_are ∙ length-map st kind_of)
 
 -- the part `[d - k..]` of a stack's column is that of its last k nodes
-pub kids-column :
+pub kids_column :
     (st : List Tag) {w : List ℕ} (k : ℕ) (f : Tag → ℕ) (d : ℕ)
     → length st ≡ d
     → w ≡ map f st
     → take (length w - (d - k)) (drop (d - k) w) ≡ map f (kids k st)
-kids-column st {w} k f d e p =
+kids_column st {w} k f d e p =
     tail-part w (d - k) ∙ ap (drop (d - k)) p ∙ map_drop f (d - k) st ∙ ap (λ (n : ℕ). map f (drop (n - k) st)) (sym e)

@@ -50,11 +50,11 @@ module _ (t : Table) (types counts lengths values : ℕ) where
       lacks_lengths h =
           sym (rw (le-ltb types (length t.types) p, le-ltb counts (length t.counts) q, lt-ltb lengths (length t.lengths) h))
 
-      pub lacks-values :
+      pub lacks_values :
           length t.lengths ≤ lengths
           → ltb values (length t.values) ≡ lacks_room t types counts lengths values
       unfolding lacks_room
-      lacks-values h =
+      lacks_values h =
           sym (rw (le-ltb types (length t.types) p, le-ltb counts (length t.counts) q, le-ltb lengths (length t.lengths) h))
 
 -- where none lacks room each part fits its buffer
@@ -81,7 +81,7 @@ fits_told t types counts lengths values e =
     }
 
 module _ (a r : Answer) (t b : Table) (types counts lengths values : List ℕ) (h : a.number ≡ accepted) where
-  pub handed-lacking :
+  pub handed_lacking :
       lacks_room t (length b.types) (length b.counts) (length b.lengths) (length b.values) ≡ true
       → r ≡ refused no_room 0
       → types ≡ b.types
@@ -90,11 +90,11 @@ module _ (a r : Answer) (t b : Table) (types counts lengths values : List ℕ) (
       → values ≡ b.values
       → Leaves (handed_of a t b) r (table types counts lengths values)
   unfolding handed_of
-  handed-lacking l e p q u v =
+  handed_lacking l e p q u v =
       rw (eq-eqb a.number accepted h, l)
       (record { answered = e; written = λ i. table (p i) (q i) (u i) (v i) })
 
-  pub handed-taken :
+  pub handed_taken :
       lacks_room t (length b.types) (length b.counts) (length b.lengths) (length b.values) ≡ false
       → r ≡ a
       → types ≡ over t.types b.types
@@ -103,6 +103,6 @@ module _ (a r : Answer) (t b : Table) (types counts lengths values : List ℕ) (
       → values ≡ over t.values b.values
       → Leaves (handed_of a t b) r (table types counts lengths values)
   unfolding handed_of
-  handed-taken l e p q u v =
+  handed_taken l e p q u v =
       rw (eq-eqb a.number accepted h, l)
       (record { answered = e; written = λ i. table (p i) (q i) (u i) (v i) })

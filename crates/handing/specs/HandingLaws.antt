@@ -46,7 +46,7 @@ handed_told a t b e =
 
 -- a refused slip's answer is told as it is, and the buffers stay
 module _ (a r : Answer) (t b : Table) (types counts lengths values : List ℕ) where
-  pub handed-refused :
+  pub handed_refused :
       (a.number ≡ accepted → ⊥)
       → r ≡ a
       → types ≡ b.types
@@ -55,6 +55,6 @@ module _ (a r : Answer) (t b : Table) (types counts lengths values : List ℕ) w
       → values ≡ b.values
       → Leaves (handed_of a t b) r (table types counts lengths values)
   unfolding handed_of
-  handed-refused h e p q u v =
+  handed_refused h e p q u v =
       rw (ne_eqb a.number accepted h)
       (record { answered = e; written = λ i. table (p i) (q i) (u i) (v i) })

@@ -29,9 +29,9 @@ module _ (H : List ℕ → List ℕ) (n : Node) (out : List ℕ) where
   fitted_sent h p = rw (le-ltb max_bytes (length (slip_of (rows n))) h) p
 
 -- the columns gathered are what the plan names
-pub gathered-as :
+pub gathered_as :
     {plan types counts lengths values offsets outTypes outCounts outLengths outValues : List ℕ} {g : Gathered} {n : Node}
     → GatherGives plan types counts lengths values offsets outTypes outCounts outLengths outValues g
     → TreeTable n (map (cell_of types) plan) (map (cell_of counts) plan) (map (cell_of lengths) plan) (values_of plan lengths values offsets)
     → TreeTable n (take g.rows outTypes) (take g.rows outCounts) (take g.rows outLengths) (take g.used outValues)
-gathered-as s t = rw (s.types_are, s.counts_are, s.lengths_are, s.values_are) t
+gathered_as s t = rw (s.types_are, s.counts_are, s.lengths_are, s.values_are) t

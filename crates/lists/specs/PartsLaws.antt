@@ -89,11 +89,11 @@ module _ {A B : Type 0} (f : A → B) where
   map_drop (suc k) (y ∷ l) = map_drop k l
 
 -- two stores after the first n
-pub take-stores :
+pub take_stores :
     (s : List ℕ) (n a b : ℕ)
     → n + 1 < length s
     → take (n + 2) (set (set s n a) (n + 1) b) ≡ take n s ++ (a ∷ b ∷ [])
-take-stores s n a b h =
+take_stores s n a b h =
     let within : n + 1 < length (set s n a) = rw length-set h in
     let two : n + 2 ≡ (n + 1) + 1 = omega arith in
     ap (λ (k : ℕ). take k (set (set s n a) (n + 1) b)) two

@@ -24,11 +24,11 @@ module _ (kind at : ℕ) (ts ls : List ℕ) (i : ℕ) (p : i < length ts) (q : i
   unfolding first_of
   first_here e = opened ∙ rw (eq-eqb _ _ e)
 
-  pub first-later :
+  pub first_later :
       (get_or ts i 0 ≡ kind → ⊥)
       → first_of kind at (drop i ts) (drop i ls) ≡ first_of kind (at + get_or ls i 0) (drop (i + 1) ts) (drop (i + 1) ls)
   unfolding first_of
-  first-later e = opened ∙ rw (ne_eqb _ _ e, add-one)
+  first_later e = opened ∙ rw (ne_eqb _ _ e, add-one)
 
 pub first_none : (kind at : ℕ) (ts ls : List ℕ) (i : ℕ) → length ts ≤ i → first_of kind at (drop i ts) ls ≡ Nothing
 unfolding first_of

@@ -37,13 +37,13 @@ module _ (kind : ℕ) (t u : Table) (first second : Bor (List ℕ)) where
     pub handed_first : (a n : ℕ) → held_in kind t ≡ At a n → PartOf first a n r → Handed (lookup kind t u) first second r
     handed_first a n e p = rw e p
 
-    pub handed-second :
+    pub handed_second :
         (a n : ℕ)
         → held_in kind t ≡ Nothing
         → held_in kind u ≡ At a n
         → PartOf second a n r
         → Handed (lookup kind t u) first second r
-    handed-second a n e f p = rw (e, f) p
+    handed_second a n e f p = rw (e, f) p
 
     pub handed_none : held_in kind t ≡ Nothing → held_in kind u ≡ Nothing → PartOf first 0 0 r → Handed (lookup kind t u) first second r
     handed_none e f p = rw (e, f) p
@@ -60,15 +60,15 @@ module _ (kind : ℕ) (t u : Table) (first second : Bor (List ℕ)) where
   pub agreed : (h : ℕ) (r : Bor (List ℕ)) → Agree h r → (h ≡ (lookup kind t u).holder) × Handed (lookup kind t u) first second r
   agreed h r (neither e f g p) = (rw (f, g) e, handed_none r f g p)
   agreed h r (in_first a n e f p) = (rw f e, handed_first r a n f p)
-  agreed h r (in_second a n e f g p) = (rw (f, g) e, handed-second r a n f g p)
+  agreed h r (in_second a n e f g p) = (rw (f, g) e, handed_second r a n f g p)
 
   -- "the contract leaves one possible answer": two parts that `find` may hand back lie at one place and have the same bytes
-  pub find-unique :
+  pub find_unique :
       (r s : Bor (List ℕ))
       → Handed (lookup kind t u) first second r
       → Handed (lookup kind t u) first second s
       → (r.ref_ptr ≡ s.ref_ptr) × (r.now ≡ s.now)
-  find-unique r s p q = (p.place ∙ sym q.place, p.bytes ∙ sym q.bytes)
+  find_unique r s p q = (p.place ∙ sym q.place, p.bytes ∙ sym q.bytes)
 
   pub holder_unique : (h k : ℕ) → h ≡ (lookup kind t u).holder → k ≡ (lookup kind t u).holder → h ≡ k
   holder_unique h k e f = e ∙ sym f

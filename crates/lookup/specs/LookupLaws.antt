@@ -7,7 +7,7 @@ use Rattle.trees.specs.Rules.{max_type}
 use Rattle.trees.specs.Rows.{Entry, tip}
 use Rattle.lists.specs.TestsLaws.{and_left, and_right}
 use Rattle.tables.specs.Tables.{Table, table_fits, entries, sum, Formed}
-use Rattle.tables.specs.TablesLaws.{table_told, fits-cases, formed-row, sum_part, entries_at}
+use Rattle.tables.specs.TablesLaws.{table_told, fits-cases, formed_row, sum_part, entries_at}
 use Rattle.lookup.specs.Lookup.{Spot, At, Nothing, first_of, held_in}
 
 -- a spot is a part or nothing, and never both
@@ -139,7 +139,7 @@ above_none kind t h = go (held_in kind t) refl
     go (At a n) e =
         let k = held_told kind t a n e in
         let r = k.row in
-        absurd (fits-cases _ _ _ (formed-row t k.formed r.number r.typed_in)
+        absurd (fits-cases _ _ _ (formed_row t k.formed r.number r.typed_in)
         (λ z. omega (arith, r.typed, k.proper))
         (λ m z. omega (arith, r.typed)))
 
@@ -150,15 +150,15 @@ held_within kind t a n e =
     omega (arith, k.formed.area, k.row.starts, k.row.sized, sum_part t.lengths k.row.number k.row.measured_in)
 
 -- the part's bytes are the value of the table's entry at that row
-pub held-entry :
+pub held_entry :
     (kind : ℕ) (t : Table) (a n : ℕ) (e : held_in kind t ≡ At a n) (d : Entry)
     → get_or (entries t.types t.counts t.lengths t.values) (held_told kind t a n e).row.number d
     ≡ tip kind (take n (drop a t.values))
-held-entry kind t a n e d =
+held_entry kind t a n e d =
     let k = held_told kind t a n e in
     let r = k.row in
     let starts : sum (take r.number t.lengths) ≡ a = omega (arith, r.starts) in
     entries_at _ _ _ t.values k.formed.columns r.number d r.typed_in
-    ∙ fits-cases _ _ _ (formed-row t k.formed r.number r.typed_in)
+    ∙ fits-cases _ _ _ (formed_row t k.formed r.number r.typed_in)
     (λ z. absurd (omega (arith, r.typed, k.proper)))
     (λ m z. rw (z, r.typed, ← r.sized, starts))

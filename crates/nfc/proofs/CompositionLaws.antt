@@ -11,13 +11,13 @@ use Rattle.nfc.proofs.MarksLaws.{plain_class}
 use Rattle.nfc.proofs.Composition.{Composes, done, stay, join, letter_plain, starts}
 
 -- a composite is a pair's, or one outside U+00C0 to U+00FF
-composite-cases :
+composite_cases :
     (l m : ℕ) (A : Type 0)
     → eqb (composite l m) 0 ≡ false
     → (composite l m ≡ joined l m → A)
     → (plain (composite l m) ≡ false → no_letter (composite l m) ≡ true → A)
     → A
-composite-cases l m A n f g =
+composite_cases l m A n f g =
     let t = composed_told l m n in
     either (latin (composite l m)) (λ i. f (sym (t.within_joined i))) (λ o. g (t.outside_plain o) (t.outside_last o))
 
@@ -91,7 +91,7 @@ whole_back :
     → Composes (composite l c ∷ cs) os
     → Composes (l ∷ (c ∷ cs)) os
 whole_back l c cs os n h =
-    composite-cases l c (Composes (l ∷ (c ∷ cs)) os) n
+    composite_cases l c (Composes (l ∷ (c ∷ cs)) os) n
     (λ e.
     starts (Composes (l ∷ (c ∷ cs)) os) h
     (λ rest q p g. rw q (join (sym e) n g))

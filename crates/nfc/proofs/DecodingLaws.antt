@@ -41,13 +41,13 @@ enough (suc j) (suc k) (b ∷ t) p q =
     (enough j k (drop (width c) (b ∷ t)) (shorter b t c j p) (shorter b t c k q))
 
 -- one character, and what comes after it
-pub decode-next :
+pub decode_next :
     (s : List ℕ)
     → 0 < length s
     → decode s ≡ front s ∷ cond (eqb (front s) ill) [] (decode (drop (width (front s)) s))
 unfolding decode chars
-decode-next [] p = absurd (omega arith)
-decode-next (b ∷ t) p =
+decode_next [] p = absurd (omega arith)
+decode_next (b ∷ t) p =
     let c = front (b ∷ t) in
     let rest = drop (width c) (b ∷ t) in
     ap (λ (l : List ℕ). c ∷ cond (eqb c ill) [] l)
@@ -79,7 +79,7 @@ decode_append (c ∷ cs) e r =
     rw (length-append (encode c) rest, length_encode c) (omega (arith, width_some c))
     in
     rw (append_assoc (encode c) (encodes cs) r)
-    (decode-next (encode c ++ rest) some
+    (decode_next (encode c ++ rest) some
     ∙ rw (
       front_encode c rest s,
       not_ill c s,
@@ -105,7 +105,7 @@ behind [] ds s e h = record { rest = s; bytes = refl; left = h }
 behind (c ∷ cs) ds [] e h = absurd (omega (arith, ap length (sym (decode_end [] (omega arith)) ∙ h)))
 behind (c ∷ cs) ds (b ∷ t) e h =
     let sc = and_left (scalar c) (scalars cs) e in
-    let q = sym (decode-next (b ∷ t) (omega arith)) ∙ h in
+    let q = sym (decode_next (b ∷ t) (omega arith)) ∙ h in
     let is : front (b ∷ t) ≡ c = head q in
     let well : eqb (front (b ∷ t)) ill ≡ false = rw is (not_ill c sc) in
     let g = behind cs ds (drop (width c) (b ∷ t)) (and_right (scalar c) (scalars cs) e) (tail (rw (not_ill c sc) at (rw is at q))) in

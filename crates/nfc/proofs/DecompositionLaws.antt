@@ -42,14 +42,14 @@ plain_first {m} k h =
     (λ m' w ds rest e q j n g. clash (letter_plain m m' w j n) k)
 
 -- a mark at the head of what a text decomposes to is the text's own
-mark-head :
+mark_head :
     (c : ℕ) (cs : List ℕ) (m : ℕ) (ds : List ℕ) (A : Type 0)
     → decomposed (c ∷ cs) ≡ m ∷ ds
     → is_mark m ≡ true
     → (c ≡ m → decomposed cs ≡ ds → A)
     → A
 unfolding decomposed
-mark-head c cs m ds A e k f =
+mark_head c cs m ds A e k f =
     decomposes c A
     (λ p. let q = rw p at e in f (head q) (tail q))
     (λ l m' p d. let q = rw p at e in absurd (clash (rw (head q) k) d.first))
@@ -90,5 +90,5 @@ composes_decomposed (c ∷ (c' ∷ cs)) {os} h =
     back c (c' ∷ cs) os h
     (λ rest g. composes_decomposed (c' ∷ cs) g)
     (λ m w ds rest e j n g.
-    mark-head c' cs m ds (Composes (c ∷ (c' ∷ cs)) (w ∷ rest)) e (joins_mark c m w j n)
+    mark_head c' cs m ds (Composes (c ∷ (c' ∷ cs)) (w ∷ rest)) e (joins_mark c m w j n)
     (λ ec ed. rw ec (join {os = rest} j n (composes_decomposed cs (rw ed g)))))

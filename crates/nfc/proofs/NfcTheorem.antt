@@ -62,9 +62,9 @@ pub equal_accepts : (xs ys : List ℕ) → all_in xs ≡ true → all_in ys ≡ 
 equal_accepts xs ys x y e = rw (accepts_nfc xs, accepts_nfc ys, x, y, e)
 
 -- and, where accepted, the same characters
-pub equal-composed :
+pub equal_composed :
     (xs ys : List ℕ) → all_in ys ≡ true → nfc xs ≡ nfc ys → accepts xs ≡ true → (accepts ys ≡ true) × (composed xs ≡ composed ys)
-equal-composed xs ys y e a =
+equal_composed xs ys y e a =
     let b = sym (equal_accepts xs ys (accepts_in xs a) y e) ∙ a in
     (b, sym (nfc_composed xs a) ∙ e ∙ nfc_composed ys b)
 

@@ -17,24 +17,24 @@ each f [] = true
 each f (pair l m w ∷ ps) = f l m w && each f ps
 
 -- what is found is a row
-pub at-found :
+pub at_found :
     (f : ℕ → ℕ → ℕ → Bool) (ps : List Pair)
     → each f ps ≡ true
     → (l m : ℕ)
     → eqb (found ps l m) 0 ≡ false
     → f l m (found ps l m) ≡ true
 unfolding each found
-at-found f [] e l m some = absurd (clash refl some)
-at-found f (pair letter mark whole ∷ ps) e l m some =
+at_found f [] e l m some = absurd (clash refl some)
+at_found f (pair letter mark whole ∷ ps) e l m some =
     either (eqb mark m && eqb letter l)
     (λ hit.
     let em = eqb-true mark m (and_left (eqb mark m) (eqb letter l) hit) in
     let el = eqb-true letter l (and_right (eqb mark m) (eqb letter l) hit) in
     rw (hit, ← em, ← el) (and_left (f letter mark whole) (each f ps) e))
-    (λ miss. rw miss (at-found f ps (and_right (f letter mark whole) (each f ps) e) l m (rw miss at some)))
+    (λ miss. rw miss (at_found f ps (and_right (f letter mark whole) (each f ps) e) l m (rw miss at some)))
 
 -- what decomposes is a row
-pub at-parts :
+pub at_parts :
     (f : ℕ → ℕ → ℕ → Bool) (ps : List Pair)
     → each f ps ≡ true
     → (c : ℕ)
@@ -43,12 +43,12 @@ pub at-parts :
     → ((l m : ℕ) → parts ps c ≡ l ∷ m ∷ [] → f l m c ≡ true → A)
     → A
 unfolding each parts
-at-parts f [] e c A whole split = whole refl
-at-parts f (pair l m w ∷ ps) e c A whole split =
+at_parts f [] e c A whole split = whole refl
+at_parts f (pair l m w ∷ ps) e c A whole split =
     either (eqb w c)
     (λ hit. split l m (rw hit) (rw (eqb-true w c hit) at (and_left (f l m w) (each f ps) e)))
     (λ miss.
-    at-parts f ps (and_right (f l m w) (each f ps) e) c A (λ p. whole (rw miss p)) (λ l' m' p q. split l' m' (rw miss p) q))
+    at_parts f ps (and_right (f l m w) (each f ps) e) c A (λ p. whole (rw miss p)) (λ l' m' p q. split l' m' (rw miss p) q))
 
 -- "lies in U+00C0 to U+00FF"
 abbrev pub latin : ℕ → Bool
@@ -117,7 +117,7 @@ ruled l m w e =
 
 pub joint : (l m : ℕ) → eqb (joined l m) 0 ≡ false → Joint l m (joined l m)
 unfolding joined
-joint l m some = ruled l m (found pairs l m) (at-found pair_rule pairs pairs_ruled l m some)
+joint l m some = ruled l m (found pairs l m) (at_found pair_rule pairs pairs_ruled l m some)
 
 -- what the rule says of two characters that compose
 pub record Made (l m w : ℕ) : Type 0 where
@@ -145,7 +145,7 @@ data_told l m w e =
 
 pub composed_told : (l m : ℕ) → eqb (composite l m) 0 ≡ false → Made l m (composite l m)
 unfolding composite
-composed_told l m some = data_told l m (found decompositions l m) (at-found data_rule decompositions data_ruled l m some)
+composed_told l m some = data_told l m (found decompositions l m) (at_found data_rule decompositions data_ruled l m some)
 
 -- "A mark directly after a letter joins it when Unicode's canonical composition of the two lies in U+00C0 to U+00FF", and only then
 pub joins_exactly : (l m : ℕ) → joined l m ≡ cond (latin (composite l m)) (composite l m) 0
@@ -168,7 +168,7 @@ pub decomposes :
     → ((l m : ℕ) → parts decompositions c ≡ l ∷ m ∷ [] → Made l m c → A)
     → A
 decomposes c A stays splits =
-    at-parts data_rule decompositions data_ruled c A stays (λ l m p e. splits l m p (data_told l m c e))
+    at_parts data_rule decompositions data_ruled c A stays (λ l m p e. splits l m p (data_told l m c e))
 
 -- a character that is no row's whole stays whole
 pub stays : (c : ℕ) (ps : List Pair) → each (λ l m w. not (eqb w c)) ps ≡ true → parts ps c ≡ c ∷ []

@@ -33,7 +33,7 @@ module _ (s : List ℕ) (at : ℕ) where
   pub front_2 : (a b : ℕ) → a ≡ get_or s at 0 → b ≡ get_or s (at + 1) 0 → 0x80 ≤ a → a < 0xE0 → front (drop at s) ≡ two_bytes a b
   front_2 a b ea eb p q = front_at s at ∙ rw (← ea, ← eb) (character_2 a b _ _ p q)
 
-  pub front-3 :
+  pub front_3 :
       (a b c : ℕ)
       → a ≡ get_or s at 0
       → b ≡ get_or s (at + 1) 0
@@ -41,9 +41,9 @@ module _ (s : List ℕ) (at : ℕ) where
       → 0xE0 ≤ a
       → a < 0xF0
       → front (drop at s) ≡ three_bytes a b c
-  front-3 a b c ea eb ec p q = front_at s at ∙ rw (← ea, ← eb, ← ec) (character_3 a b c _ p q)
+  front_3 a b c ea eb ec p q = front_at s at ∙ rw (← ea, ← eb, ← ec) (character_3 a b c _ p q)
 
-  pub front-4 :
+  pub front_4 :
       (a b c d : ℕ)
       → a ≡ get_or s at 0
       → b ≡ get_or s (at + 1) 0
@@ -51,4 +51,4 @@ module _ (s : List ℕ) (at : ℕ) where
       → d ≡ get_or s (at + 3) 0
       → 0xF0 ≤ a
       → front (drop at s) ≡ four_bytes a b c d
-  front-4 a b c d ea eb ec ed p = front_at s at ∙ rw (← ea, ← eb, ← ec, ← ed) (character_4 a b c d p)
+  front_4 a b c d ea eb ec ed p = front_at s at ∙ rw (← ea, ← eb, ← ec, ← ed) (character_4 a b c d p)

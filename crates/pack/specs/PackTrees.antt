@@ -26,7 +26,7 @@ use Rattle.outcomes.specs.Outcome.{over}
 use Rattle.slips.specs.Verdicts.{Refuses, verdict_refuses}
 use Rattle.tables.specs.Cells.{type_cell, count_cell, length_cell, value_cell, values_of}
 use Rattle.unpack.specs.Unpack.{table_of}
-use Rattle.unpack.specs.CellsLaws.{table-back}
+use Rattle.unpack.specs.CellsLaws.{table_back}
 use Rattle.pack.specs.Pack.{rows_of, bad_row, table_fault, judged_as, answer_of, pack_of}
 use Rattle.pack.specs.PackLaws.{fault_columns, fault_free, rows_of_formed, answer_cases, judged_cases, number_of}
 
@@ -191,7 +191,7 @@ module _ (H : List ℕ → List ℕ) (composed : List ℕ → Bool) where
         record {
           well = built_well_formed H composed (rows_of t) o.root o.compressed built o.kind;
           is =
-              sym (table-back t.types t.counts t.lengths t.values f.columns.counts_long f.columns.lengths_long f.rows f.area)
+              sym (table_back t.types t.counts t.lengths t.values f.columns.counts_long f.columns.lengths_long f.rows f.area)
               ∙ ap table_of exact;
           few = omega (arith, length_rows built.tree, ap length exact, long, f.columns.few);
           long = omega (arith, short, ap (λ (es : List Entry). length (slip_of es)) exact);

@@ -85,7 +85,7 @@ module _ {types counts lengths values labels marks : List ℕ} (ready : PickAsks
     value_room k room = omega (arith, g.used_low, g.at_is, sum_front lengths i l_here, sum_within lengths (i + 1))
 
     -- what the row's turn asks
-    pub going-puts :
+    pub going_puts :
         (v : List ℕ)
         → v ≡ take (get_or lengths i 0) (drop at values)
         → length types ≤ length ts
@@ -93,7 +93,7 @@ module _ {types counts lengths values labels marks : List ℕ} (ready : PickAsks
         → length types ≤ length ls
         → sum lengths + label_bytes * length types ≤ length vs
         → PutAsks (get_or types i 0) (get_or counts i 0) (get_or lengths i 0) rows used v ts cs ls vs
-    going-puts v v-is p q r room =
+    going_puts v v-is p q r room =
         record {
           types_room = omega (arith, g.rows_low);
           counts_room = omega (arith, g.rows_low);
@@ -140,13 +140,13 @@ module _ {types counts lengths values labels marks : List ℕ} (ready : PickAsks
                 ∙ sym (append_assoc g.so_far (row_by m e label) (picked row_by (drop (i + 1) marks) (drop (i + 1) es) (drop (i + 1) xs)));
           }
 
-  pub going-all :
+  pub going_all :
       {i at rows used : ℕ} {ts cs ls vs : List ℕ}
       → length types ≤ i
       → i ≤ length types
       → Going lengths es xs marks i at rows used ts cs ls vs
       → PickGives types counts lengths values labels marks rows used ts cs ls vs
-  going-all {i} {rows = rows} {used} {ts} {cs} {ls} {vs} h k g =
+  going_all {i} {rows = rows} {used} {ts} {cs} {ls} {vs} h k g =
       let past : drop i es ≡ [] =
       drop_of_length-le es {i = i} (omega (arith, length_entries types counts lengths values ready.form.columns.counts_long ready.form.columns.lengths_long)) in
       record {

@@ -55,7 +55,7 @@ abbrev pub Marked : List ℕ → List ℕ → List ℕ → Type 0
 Marked list counts marks = take (length counts) marks ≡ (walk (named list) counts 0 at_end).marks
 
 -- then only internal rows are cut off
-pub marked-inner :
+pub marked_inner :
     (list counts marks : List ℕ)
     → first_fault counts 0 0 list ≡ length list
     → Marked list counts marks
@@ -63,7 +63,7 @@ pub marked-inner :
     → k < length counts
     → 1 < get_or marks k 0
     → 0 < get_or counts k 0
-marked-inner list counts marks clean marked k h cut =
+marked_inner list counts marks clean marked k h cut =
     let is : get_or marks k 0 ≡ get_or (walk (named list) counts 0 at_end).marks k 0 =
     sym (get_or-take (length counts) marks k 0 h) ∙ ap (λ (x : List ℕ). get_or x k 0) marked in
     named_inner counts list k clean

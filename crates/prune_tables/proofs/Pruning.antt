@@ -10,7 +10,7 @@ use Rattle.tables.specs.Records.{Holds}
 use Rattle.sha256.specs.Sha256 as Sha256
 use Rattle.prune_rows.specs.Clauses.{Written, PruneAsks, PruneGives}
 use Rattle.prune_rows.specs.Steps.{PickAsks, PickGives}
-use Rattle.prune_rows.specs.PrunedLaws.{Marked, marked-inner, picked_table, pruned_some, written_rows}
+use Rattle.prune_rows.specs.PrunedLaws.{Marked, marked_inner, picked_table, pruned_some, written_rows}
 use Rattle.prune_tables.specs.Clauses.{CleanAsks}
 
 -- a table that holds a tree, and a list without fault
@@ -26,7 +26,7 @@ module _ {types counts lengths values labels list marks : List ℕ} (x : PruneAs
       record {
         form = h.table.form;
         labels_room = h.labels_room;
-        cuts = λ k l. marked-inner list counts marks x.clean marked k (omega (arith, h.table.form.columns.counts_long));
+        cuts = λ k l. marked_inner list counts marks x.clean marked k (omega (arith, h.table.form.columns.counts_long));
       }
 
   pub prunes :

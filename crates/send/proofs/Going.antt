@@ -11,7 +11,7 @@ use Rattle.tables.specs.Records.{TreeTable}
 use Rattle.lists.specs.PartsLaws.{next-cons, one_more, part}
 use Rattle.send.specs.Blocks.{piece_size, row_blocks, blocks_from, Enough, BlocksAsks, BlocksGives}
 use Rattle.send.specs.BlocksLaws.{blocks_tree}
-use Rattle.send.specs.SafeLaws.{enough_tree, table-low}
+use Rattle.send.specs.SafeLaws.{enough_tree, table_low}
 
 -- At row i, d pieces wait in `stack`, and the rows passed take `total` blocks.
 pub record Going (counts lengths stack : List ℕ) (d total i : ℕ) : Type 0 where
@@ -49,7 +49,7 @@ module _ {counts lengths stack : List ℕ} {d total i c l : ℕ} (g : Going coun
   row_here p h ec el =
       let t : TreeTable p.tree p.types counts lengths p.values = p.table in
       let low : (get_or counts i 0 ≤ max_children) × (get_or lengths i 0 ≤ max_value) =
-      table-low p.tree p.types counts lengths p.values t i (omega arith) in
+      table_low p.tree p.types counts lengths p.values t i (omega arith) in
       let e : drop i counts ≡ c ∷ drop (i + 1) counts = next-cons counts i 0 h ∙ ap (λ (x : ℕ). x ∷ drop (i + 1) counts) (sym ec) in
       let n : drop i lengths ≡ l ∷ drop (i + 1) lengths =
       next-cons lengths i 0 (omega arith) ∙ ap (λ (x : ℕ). x ∷ drop (i + 1) lengths) (sym el) in

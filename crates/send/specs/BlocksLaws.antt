@@ -22,27 +22,27 @@ below_none : (st : List ℕ) → below 0 st ≡ st
 below_none st = take_all (length st - 0) st (omega arith)
 
 -- a table's columns are walked as its entries are
-columns-walked :
+columns_walked :
     (ts cs ls vs st : List ℕ)
     → length cs ≡ length ts
     → length ls ≡ length ts
     → sum ls ≤ length vs
     → blocks_from cs ls st ≡ entry_blocks (entries ts cs ls vs) st
 unfolding blocks_from row_blocks piece_size sum
-columns-walked [] [] ls vs st p q h = refl
-columns-walked [] (c ∷ cs) ls vs st p q h = absurd (omega arith)
-columns-walked (t ∷ ts) [] ls vs st p q h = absurd (omega arith)
-columns-walked (t ∷ ts) (c ∷ cs) [] vs st p q h = absurd (omega arith)
-columns-walked (t ∷ ts) (zero ∷ cs) (l ∷ ls) vs st p q h =
+columns_walked [] [] ls vs st p q h = refl
+columns_walked [] (c ∷ cs) ls vs st p q h = absurd (omega arith)
+columns_walked (t ∷ ts) [] ls vs st p q h = absurd (omega arith)
+columns_walked (t ∷ ts) (c ∷ cs) [] vs st p q h = absurd (omega arith)
+columns_walked (t ∷ ts) (zero ∷ cs) (l ∷ ls) vs st p q h =
     let long : length (take l vs) ≡ l = length-take-le l vs (omega arith) in
-    let rest = columns-walked ts cs ls (drop l vs) (below 0 st ++ ((head_bytes + l) ∷ [])) (omega arith) (omega arith) (omega (arith, length-drop l vs)) in
+    let rest = columns_walked ts cs ls (drop l vs) (below 0 st ++ ((head_bytes + l) ∷ [])) (omega arith) (omega arith) (omega (arith, length-drop l vs)) in
     zero-add (blocks_from cs ls (below 0 st ++ ((head_bytes + l) ∷ [])))
     ∙ rest
     ∙ ap₂ (λ (b : List ℕ) (m : ℕ). entry_blocks (entries ts cs ls (drop l vs)) (b ++ ((head_bytes + m) ∷ []))) (below_none st) (sym long)
-columns-walked (t ∷ ts) (suc c ∷ cs) (l ∷ ls) vs st p q h =
+columns_walked (t ∷ ts) (suc c ∷ cs) (l ∷ ls) vs st p q h =
     rw (ne_eqb (suc c) 0 (λ e. omega arith))
     (ap (λ (s : ℕ). blocks_of (sum (kids (suc c) st)) + s)
-    (columns-walked ts cs ls (drop l vs) (below (suc c) st ++ ((head_bytes + label_bytes) ∷ [])) (omega arith) (omega arith)
+    (columns_walked ts cs ls (drop l vs) (below (suc c) st ++ ((head_bytes + label_bytes) ∷ [])) (omega arith) (omega arith)
     (omega (arith, length-drop l vs))))
 
 module _ (H : List ℕ → List ℕ) (long : (x : List ℕ) → length (H x) ≡ label_bytes) where
@@ -90,7 +90,7 @@ module _ (H : List ℕ → List ℕ) (long : (x : List ℕ) → length (H x) ≡
   -- the walk of a tree's table gives the tree's blocks
   pub blocks_tree : (n : Node) (ts cs ls vs : List ℕ) → TreeTable n ts cs ls vs → blocks_from cs ls [] ≡ blocks H n
   blocks_tree n ts cs ls vs t =
-      columns-walked ts cs ls vs [] t.form.columns.counts_long t.form.columns.lengths_long t.form.area
+      columns_walked ts cs ls vs [] t.form.columns.counts_long t.form.columns.lengths_long t.form.area
       ∙ ap (λ (es : List Entry). entry_blocks es []) (t.rows_are ∙ sym (append-nil (rows n)))
       ∙ walk_rows n [] []
       ∙ add-zero (blocks H n)

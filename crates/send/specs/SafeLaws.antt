@@ -6,7 +6,7 @@ use Rattle.trees.specs.Nodes.{Node, Run, inner, leaf, nil, cons, count}
 use Rattle.trees.specs.Rules.{max_type, max_value, max_children, label_bytes}
 use Rattle.trees.specs.Rows.{Entry, node, tip, rows, rows_in}
 use Rattle.tables.specs.Tables.{entries, entry_of, row_fits, internal_row, dangling_row, pair_row, sum, table, Formed}
-use Rattle.tables.specs.TablesLaws.{formed-row}
+use Rattle.tables.specs.TablesLaws.{formed_row}
 use Rattle.tables.specs.Records.{TreeTable}
 use Rattle.send.specs.Blocks.{Enough}
 
@@ -69,16 +69,16 @@ row_low t c l e =
     (omega arith, leb-true l max_value (and_right (leb 1 t && leb t max_type && eqb c 0) (leb l max_value) p)))
 
 -- each row of a tree's table keeps them
-pub table-low :
+pub table_low :
     (n : Node) (ts cs ls vs : List ℕ)
     → TreeTable n ts cs ls vs
     → (i : ℕ)
     → i < length ts
     → (get_or cs i 0 ≤ max_children) × (get_or ls i 0 ≤ max_value)
-table-low n ts cs ls vs t i h =
+table_low n ts cs ls vs t i h =
     let f : Formed (table ts cs ls (take (sum ls) vs)) = record {
       columns = t.form.columns;
       rows = t.form.rows;
       area = length-take-le (sum ls) vs t.form.area;
     } in
-    row_low (get_or ts i 0) (get_or cs i 0) (get_or ls i 0) (formed-row (table ts cs ls (take (sum ls) vs)) f i h)
+    row_low (get_or ts i 0) (get_or cs i 0) (get_or ls i 0) (formed_row (table ts cs ls (take (sum ls) vs)) f i h)

@@ -22,11 +22,11 @@ module _ (es : List Entry) (b : ℕ) (l out : List ℕ) where
   sent_whole h e w = rw (le-ltb (length out) (length (slip_of es)) h) (record { answered = e; written = w })
 
 -- what is sent of a tree's entries with its blocks and label is that tree's
-pub sent-tree :
+pub sent_tree_lem :
     (H : List ℕ → List ℕ) (n : Node) (es : List Entry) (b : ℕ) (l out : List ℕ) {left : List ℕ} {r : Answer}
     → es ≡ rows n
     → b ≡ blocks H n
     → l ≡ label H n
     → Leaves (sent es b l out) r left
     → Leaves (sent_tree H n out) r left
-sent-tree H n es b l out {left} {r} p q e x = subst (λ (o : Output Answer). Leaves o r left) (λ i. sent (p i) (q i) (e i) out) x
+sent_tree_lem H n es b l out {left} {r} p q e x = subst (λ (o : Output Answer). Leaves o r left) (λ i. sent (p i) (q i) (e i) out) x

@@ -30,14 +30,14 @@ spread_snoc k [] x = append-nil (bytes k x)
 spread_snoc k (y ∷ l) x = rw (spread_snoc k l x, append_assoc)
 
 -- one word more
-pub spread-more :
+pub spread_more :
     (h out four : List ℕ) (i : ℕ)
     → i < length h
     → 4 * i + 4 ≤ length out
     → take (4 * i) out ≡ spread 4 (take i h)
     → four ≡ bytes 4 (get_or h i 0)
     → take (4 * (i + 1)) (paste out (4 * i) four (length four)) ≡ spread 4 (take (i + 1) h)
-spread-more h out four i p q e f =
+spread_more h out four i p q e f =
     let n : length four ≡ 4 = ap length f ∙ length_bytes 4 (get_or h i 0) in
     let m : 4 * (i + 1) ≡ 4 * i + length four = omega arith in
     let r : 4 * i ≤ length out = omega arith in
@@ -73,7 +73,7 @@ front last area k few e =
     rw (n, e, take-append-add, m, take_blank)
 
 -- the last bytes of a text, 128, zeros and the length field, as they are laid into an area of zeros
-pub closing-laid :
+pub closing_laid :
     (last area laid field : List ℕ) (rest bits end : ℕ)
     → rest ≡ length last
     → rest + 9 ≤ end
@@ -83,7 +83,7 @@ pub closing-laid :
     → laid ≡ paste area (end - 8) field (length field)
     → take end laid ≡ closing sha256 last (end - rest - 9) bits
 unfolding closing
-closing-laid last area laid field rest bits end e few most qa pb pl =
+closing_laid last area laid field rest bits end e few most qa pb pl =
     let pa : area ≡ set (last ++ drop (length last) (blank 128)) (length last) 128 =
     qa ∙ rw (e, take-length) in
     let k : ℕ = end - rest - 9 in

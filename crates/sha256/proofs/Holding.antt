@@ -26,13 +26,13 @@ module _ (s : Kind) {h tail t : List ℕ} {len : ℕ} (d : Held s h tail len t) 
       drop-append-le (size s * d.whole) t part in_t ∙ ap (λ (l : List ℕ). l ++ part) (sym d.left)
 
   -- a part that doesn't fill the block
-  pub held-short :
+  pub held_short :
       (rest : ℕ) {last : List ℕ}
       → rest ≡ d.rest
       → rest + length part < size s
       → last ≡ paste tail rest part (length part)
       → Held s h last (len + length part) (t ++ part)
-  held-short rest e few in_Tail =
+  held_short rest e few in_Tail =
       let at : rest ≤ length tail = omega (arith, d.room) in
       let fits : rest + length part ≤ length tail = omega (arith, d.room) in
       let all : length part ≤ length part = omega arith in

@@ -47,10 +47,10 @@ held_all {e = e} t (part ∷ parts) h (more g r) =
 
 -- document 01: "cutting the prelabel elsewhere gives the same label". However a text is cut into parts, a new digest that
 -- takes them in turn ends with the SHA-256 of the whole.
-pub cut-anywhere :
+pub cut_anywhere :
     {new e : Digest} {label-given : List ℕ} (parts : List (List ℕ))
     → Holds new []
     → Takes new parts e
     → Ends e label-given
     → label-given ≡ label (whole parts)
-cut-anywhere parts h r end = end (whole parts) (held_all [] parts h r)
+cut_anywhere parts h r end = end (whole parts) (held_all [] parts h r)

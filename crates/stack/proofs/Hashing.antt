@@ -20,17 +20,17 @@ use Rattle.stack.proofs.Laid.{kids_part, kids_bytes, kids_fit, kids_both, kids_p
 
 -- what is asked and shown of a row's entry is asked and shown of a leaf, or of an internal node
 module _ {s : Stack} {i : ℕ} {e f : Entry} (q : e ≡ f) where
-  pub ready-as :
+  pub ready_as :
       {kinds heights sizes work labels : List ℕ}
       → GrowAsks s e i kinds heights sizes work labels
       → GrowAsks s f i kinds heights sizes work labels
-  ready-as {kinds} {heights} {sizes} {work} {labels} p = subst (λ (x : Entry). GrowAsks s x i kinds heights sizes work labels) q p
+  ready_as {kinds} {heights} {sizes} {work} {labels} p = subst (λ (x : Entry). GrowAsks s x i kinds heights sizes work labels) q p
 
-  pub grows-as :
+  pub grows_as :
       {st : List Tag} {r : Stack} {labels kinds heights sizes work labels' : List ℕ}
       → GrowGives Sha256.label st f i s r labels kinds heights sizes work labels'
       → GrowGives Sha256.label st e i s r labels kinds heights sizes work labels'
-  grows-as {st} {r} {labels} {kinds} {heights} {sizes} {work} {labels'} g =
+  grows_as {st} {r} {labels} {kinds} {heights} {sizes} {work} {labels'} g =
       subst (λ (x : Entry). GrowGives Sha256.label st x i s r labels kinds heights sizes work labels') (sym q) g
 
 -- A leaf is pushed.
@@ -47,12 +47,12 @@ module _ (s : Stack) (t : ℕ) (v : List ℕ) (i : ℕ) {kinds heights sizes wor
         work_room = omega (arith, length_more p.st (record { kind = t; height = 1; text = v }), p.laid.full, p.work_room);
       }
 
-  pub leaf-grows :
+  pub leaf_grows :
       (st : List Tag) {r : Stack} {kinds' heights' sizes' work' : List ℕ}
       → Laid st s.depth s.top kinds heights sizes work
       → PushGives s t 1 v r kinds heights sizes work kinds' heights' sizes' work'
       → GrowGives Sha256.label st (tip t v) i s r labels kinds' heights' sizes' work' labels
-  leaf-grows st l q = record { laid = q.laid st l; blocks = omega (arith, q.blocks); labels_are = refl }
+  leaf_grows st l q = record { laid = q.laid st l; blocks = omega (arith, q.blocks); labels_are = refl }
 
 -- An internal node takes the last `count`.
 module _ (s : Stack) (count i : ℕ) {kinds heights sizes work labels : List ℕ} (p : GrowAsks s (node count) i kinds heights sizes work labels) where
@@ -123,14 +123,14 @@ module _ (s : Stack) (count i : ℕ) {kinds heights sizes work labels : List ℕ
               );
         }
 
-    pub node-grows :
+    pub node_grows :
         (st : List Tag) {b : ℕ} {r' : Stack} {kinds' heights' sizes' work' labels' : List ℕ}
         → Laid st s.depth s.top kinds heights sizes work
         → b ≡ s.blocks + blocks_of r.long
         → labels' ≡ paste labels (label_bytes * i) r.label (length r.label)
         → PushGives (record { depth = s.depth - count; top = s.top - r.long; blocks = b }) 0 r.height r.label r' kinds heights sizes work kinds' heights' sizes' work'
         → GrowGives Sha256.label st (node count) i s r' labels kinds' heights' sizes' work' labels'
-    node-grows st {r' = r'} {kinds'} {heights'} {sizes'} {work'} l b n q =
+    node_grows st {r' = r'} {kinds'} {heights'} {sizes'} {work'} l b n q =
         let gs : List Tag = kids count st in
         let tag : ◌≡◌ {A = Tag} (record { kind = 0; height = r.height; text = r.label }) (parent Sha256.label (highest_of gs) (map head_of gs)) =
         ap₂ (λ (h : ℕ) (x : List ℕ). record { kind = 0; height = h; text = x }) (height_is l) (label_is l) in

@@ -70,7 +70,7 @@ module _ {st : List Tag} {d top : ℕ} {kinds heights sizes work : List ℕ} (l 
       }
 
 -- The areas hold one node more, where its piece stands behind the others.
-pub laid-push :
+pub laid_push :
     {st : List Tag} {d top : ℕ} {kinds heights sizes work work' : List ℕ} {end : ℕ} (g : Tag)
     → Laid st d top kinds heights sizes work
     → d < length kinds
@@ -79,7 +79,7 @@ pub laid-push :
     → end ≡ top + head_bytes + length g.text
     → take (top + head_bytes + length g.text) work' ≡ take top work ++ piece (head_of g)
     → Laid (st ++ (g ∷ [])) (d + 1) end (set kinds d g.kind) (set heights d g.height) (set sizes d (length g.text)) work'
-laid-push {st} {d} {top} {kinds} {heights} {sizes} {work} {work'} g l hk hh hs q e =
+laid_push {st} {d} {top} {kinds} {heights} {sizes} {work} {work'} g l hk hh hs q e =
     let col : (f : Tag → ℕ) (w : List ℕ) → d < length w → take d w ≡ map f st → take (d + 1) (set w d (f g)) ≡ map f (st ++ (g ∷ [])) =
     λ f w h z. filled w d (d + 1) (f g) h (omega arith) z ∙ sym (map-append f st (g ∷ [])) in
     let more : pieces (st ++ (g ∷ [])) ≡ pieces st ++ piece (head_of g) =

@@ -51,11 +51,11 @@ module _ (ts cs ls : List ℕ) (i : ℕ) (p : i < length ts) (q : i < length cs)
   unfolding first_bad
   bad_here e = opened ∙ rw e
 
-  pub bad-later :
+  pub bad_later :
       row_fits (get_or ts i 0) (get_or cs i 0) (get_or ls i 0) ≡ true
       → first_bad i (drop i ts) (drop i cs) (drop i ls) ≡ first_bad (i + 1) (drop (i + 1) ts) (drop (i + 1) cs) (drop (i + 1) ls)
   unfolding first_bad
-  bad-later e = opened ∙ rw (e, add-one)
+  bad_later e = opened ∙ rw (e, add-one)
 
 pub bad_none : (ts cs ls : List ℕ) (i : ℕ) → length ts ≤ i → first_bad i (drop i ts) cs ls ≡ i
 unfolding first_bad

@@ -82,13 +82,13 @@ rows_fit i (t ∷ ts) (c ∷ cs) [] e j h = absurd (omega arith)
 rows_fit i (t ∷ ts) (c ∷ cs) (l ∷ ls) e zero h = (rows_head i t c l ts cs ls e).0
 rows_fit i (t ∷ ts) (c ∷ cs) (l ∷ ls) e (suc j) h = rows_fit (i + 1) ts cs ls (rows_head i t c l ts cs ls e).1 j (omega arith)
 
-pub formed-row :
+pub formed_row :
     (t : Table)
     → Formed t
     → (j : ℕ)
     → j < length t.types
     → row_fits (get_or t.types j 0) (get_or t.counts j 0) (get_or t.lengths j 0) ≡ true
-formed-row t f = rows_fit 0 t.types t.counts t.lengths (omega (arith, f.rows))
+formed_row t f = rows_fit 0 t.types t.counts t.lengths (omega (arith, f.rows))
 
 pub sum_append : (x y : List ℕ) → sum (x ++ y) ≡ sum x + sum y
 unfolding sum

@@ -39,13 +39,13 @@ module _ (s : List ℕ) (at n c : ℕ) (room : List ℕ) (r : Reached s at n roo
   reached_bad e = sym (r.answer ∙ rw (bad_at s at c more is e))
 
   module _ (e : plain c ≡ true) (k : ℕ) (room' : List ℕ) where
-    pub reached-one :
+    pub reached_one :
         joined c (front (drop (at + width c) s)) ≡ 0
         → k ≡ n + width c
         → take k room' ≡ take n room ++ encode c
         → Reached s (at + width c) k room'
     unfolding answer_from outs encodes
-    reached-one none ek put =
+    reached_one none ek put =
         let step = one_at s at c more is e none in
         record {
           inside = next_fits s at c more is e;

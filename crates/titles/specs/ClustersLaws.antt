@@ -7,7 +7,7 @@ use Rattle.nfc.specs.Utf8.{ill, width, character, front, decode}
 use Rattle.nfc.specs.Repertoire.{plain, all_plain}
 use Rattle.nfc.specs.Joining.{joined, Cluster, bad, one, two, clusters}
 use Rattle.nfc.specs.BoundsLaws.{at_least, at_most, width_2, encode_2}
-use Rattle.nfc.proofs.DecodingLaws.{decode-next, decode_end, front_fits}
+use Rattle.nfc.proofs.DecodingLaws.{decode_next, decode_end, front_fits}
 use Rattle.nfc.proofs.SequencesLaws.{front_starts}
 use Rattle.nfc.proofs.PairsLaws.{joint}
 use Rattle.nfc.proofs.MarksLaws.{mark_within, plain_small}
@@ -21,7 +21,7 @@ plain_not_ill c e = ne_eqb c ill (λ q. omega (arith, plain_small c e))
 
 -- a plain character, and what is decoded after it
 pub plain_next : (s : List ℕ) → 0 < length s → plain (front s) ≡ true → decode s ≡ front s ∷ decode (drop (width (front s)) s)
-plain_next s some e = decode-next s some ∙ rw (plain_not_ill (front s) e)
+plain_next s some e = decode_next s some ∙ rw (plain_not_ill (front s) e)
 
 -- a plain character is all there
 pub plain_fits : (s : List ℕ) → 0 < length s → plain (front s) ≡ true → width (front s) ≤ length s
@@ -68,20 +68,20 @@ clusters_one : (c : ℕ) (s : List ℕ) → plain c ≡ true → eqb (joined c (
 unfolding clusters
 clusters_one c s e none =
     either (ltb 0 (length s))
-    (λ p. rw (decode-next s (ltb-true 0 (length s) p), e, none))
+    (λ p. rw (decode_next s (ltb-true 0 (length s) p), e, none))
     (λ p. rw (decode_end s (ltb-false 0 (length s) p), e))
 
-clusters-two :
+clusters_two :
     (c : ℕ) (s : List ℕ)
     → plain c ≡ true
     → eqb (joined c (front s)) 0 ≡ false
     → clusters (c ∷ decode s) ≡ two c (front s) ∷ clusters (decode (drop (width (front s)) s))
 unfolding clusters
-clusters-two c s e some =
+clusters_two c s e some =
     let m = front s in
     let b = mark_bounds c m some in
     let well : eqb m ill ≡ false = ne_eqb m ill (λ x. omega arith) in
-    rw (decode-next s (joins_some c s some), well, e, some)
+    rw (decode_next s (joins_some c s some), well, e, some)
 
 -- the cluster that starts at byte `at`, whose character is c
 module _ (s : List ℕ) (at c : ℕ) (more : at < length s) (is : c ≡ front (drop at s)) where
@@ -89,11 +89,11 @@ module _ (s : List ℕ) (at c : ℕ) (more : at < length s) (is : c ≡ front (d
   left = rw (length-drop at s) (omega arith)
 
   pub bad_at : plain c ≡ false → from s at ≡ bad c ∷ []
-  bad_at e = rw (decode-next (drop at s) left, ← is) (clusters_bad c _ e)
+  bad_at e = rw (decode_next (drop at s) left, ← is) (clusters_bad c _ e)
 
   pub not_plain_at : plain c ≡ false → all_plain (decode (drop at s)) ≡ false
   unfolding all_plain
-  not_plain_at e = rw (decode-next (drop at s) left, ← is, e)
+  not_plain_at e = rw (decode_next (drop at s) left, ← is, e)
 
   module _ (e : plain c ≡ true) where
     pub decoded_at : decode (drop at s) ≡ c ∷ decode (drop (at + width c) s)
@@ -128,7 +128,7 @@ module _ (s : List ℕ) (at c : ℕ) (more : at < length s) (is : c ≡ front (d
       unfolding rest
       two_at =
           rw decoded_at
-          (clusters-two c rest e (rw next at some)
+          (clusters_two c rest e (rw next at some)
           ∙ rw (← next, mark_width, drop-drop 2 (at + width c) s))
 
 pub all_plain_end : (s : List ℕ) (at : ℕ) → length s ≤ at → all_plain (decode (drop at s)) ≡ true

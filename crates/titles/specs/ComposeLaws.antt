@@ -58,17 +58,17 @@ fault_some c =
     rw p (either (is_mark c) (λ q. rw q (λ e. omega arith)) λ q. rw q (λ e. omega arith))
 
 -- clusters of which none is bad are accepted, with the length of what they compose to
-judged-taken :
+judged_taken :
     (p n : ℕ) (ps : List Cluster)
     → none_bad ps ≡ true
     → answer_from p n ps ≡ acceptance (n + length (encodes (outs ps)))
 unfolding answer_from none_bad outs encodes
-judged-taken p n [] e = ap acceptance (sym (add-zero n))
-judged-taken p n (bad c ∷ ps) e = absurd (clash e refl)
-judged-taken p n (one c ∷ ps) e =
-    judged-taken (p + width c) (n + width c) ps e ∙ ap acceptance (lengths n c (encodes (outs ps)))
-judged-taken p n (two l m ∷ ps) e =
-    judged-taken (p + (width l + width m)) (n + width (joined l m)) ps e
+judged_taken p n [] e = ap acceptance (sym (add-zero n))
+judged_taken p n (bad c ∷ ps) e = absurd (clash e refl)
+judged_taken p n (one c ∷ ps) e =
+    judged_taken (p + width c) (n + width c) ps e ∙ ap acceptance (lengths n c (encodes (outs ps)))
+judged_taken p n (two l m ∷ ps) e =
+    judged_taken (p + (width l + width m)) (n + width (joined l m)) ps e
     ∙ ap acceptance (lengths n (joined l m) (encodes (outs ps)))
 
 judged_refused : (p n : ℕ) (ps : List Cluster) → none_bad ps ≡ false → (answer_from p n ps).number ≡ accepted → ⊥
@@ -98,4 +98,4 @@ judged_accepts title z =
 
 pub accepts_judged : (title : List ℕ) → accepts (decode title) ≡ true → answer_from 0 0 (clusters (decode title)) ≡ acceptance (length (text title))
 unfolding accepts text composed
-accepts_judged title e = judged-taken 0 0 (clusters (decode title)) e ∙ ap acceptance (zero-add (length (text title)))
+accepts_judged title e = judged_taken 0 0 (clusters (decode title)) e ∙ ap acceptance (zero-add (length (text title)))

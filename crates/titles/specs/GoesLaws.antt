@@ -9,7 +9,7 @@ use Rattle.nfc.specs.Repertoire.{member, marks, is_mark, plain, in_repertoire, a
 use Rattle.nfc.specs.Joining.{joined, one, clusters, none_bad, accepts}
 use Rattle.nfc.proofs.SequencesLaws.{front_starts}
 use Rattle.nfc.specs.EncodingsLaws.{front_encode}
-use Rattle.nfc.proofs.DecodingLaws.{length_encode, decode-next, decode_end, decode_append, decode_encodes, ill_formed_none, behind}
+use Rattle.nfc.proofs.DecodingLaws.{length_encode, decode_next, decode_end, decode_append, decode_encodes, ill_formed_none, behind}
 use Rattle.nfc.proofs.Composition.{letter_plain, joins_mark, clusters_join}
 use Rattle.nfc.proofs.NfcTheorem.{accepts_in, mark_in}
 use Rattle.titles.specs.Compose.{text, fault, refusal, answer_from, compose_of, max_title}
@@ -34,14 +34,14 @@ halts_plain (here p) = p
 halts_plain (past p n h) = halts_plain h
 halts_plain (over n h) = halts_plain h
 
-clusters-past :
+clusters_past :
     (l c : ℕ) (pre xs : List ℕ)
     → plain l ≡ true
     → eqb (joined l (next pre c)) 0 ≡ true
     → clusters (l ∷ (pre ++ c ∷ xs)) ≡ one l ∷ clusters (pre ++ c ∷ xs)
 unfolding clusters next
-clusters-past l c [] xs p n = rw (p, n)
-clusters-past l c (x ∷ pre) xs p n = rw (p, n)
+clusters_past l c [] xs p n = rw (p, n)
+clusters_past l c (x ∷ pre) xs p n = rw (p, n)
 
 halts_taken : {pre : List ℕ} {c : ℕ} → Halts pre c → accepts pre ≡ true
 unfolding accepts none_bad clusters next
@@ -53,7 +53,7 @@ halts_taken (over {l} {m} {pre = pre} n h) = rw (clusters_join l m (joined l m) 
 halts_bad : {pre : List ℕ} {c : ℕ} → Halts pre c → (xs : List ℕ) → accepts (pre ++ c ∷ xs) ≡ false
 unfolding accepts none_bad
 halts_bad (here {c} p) xs = rw (clusters_bad c xs p)
-halts_bad (past {l} {c} {pre} p n h) xs = rw (clusters-past l c pre xs p n) (halts_bad h xs)
+halts_bad (past {l} {c} {pre} p n h) xs = rw (clusters_past l c pre xs p n) (halts_bad h xs)
 halts_bad (over {l} {m} {c} {pre} n h) xs = rw (clusters_join l m (joined l m) (pre ++ c ∷ xs) refl n) (halts_bad h xs)
 
 halts_scalars : {pre : List ℕ} {c : ℕ} → Halts pre c → scalars pre ≡ true
@@ -64,20 +64,20 @@ halts_scalars (over {l} {m} n h) =
     and_both _ _ (plain_scalar l (letter_plain l m (joined l m) refl n)) (and_both _ _ (mark_scalar m (joins_mark l m (joined l m) refl n)) (halts_scalars h))
 
 -- the refusal has the fault of c, at the bytes' end of pre
-halts-judged :
+halts_judged :
     {pre : List ℕ} {c : ℕ}
     → Halts pre c
     → (p n : ℕ) (xs : List ℕ)
     → answer_from p n (clusters (pre ++ c ∷ xs)) ≡ refusal (fault c) (p + length (encodes pre))
 unfolding answer_from encodes
-halts-judged (here {c} q) p n xs = rw (clusters_bad c xs q, add-zero p)
-halts-judged (past {l} {c} {pre} q e h) p n xs =
-    rw (clusters-past l c pre xs q e)
-    (halts-judged h (p + width l) (n + width l) xs
+halts_judged (here {c} q) p n xs = rw (clusters_bad c xs q, add-zero p)
+halts_judged (past {l} {c} {pre} q e h) p n xs =
+    rw (clusters_past l c pre xs q e)
+    (halts_judged h (p + width l) (n + width l) xs
     ∙ ap (refusal (fault c)) (rw (length-append (encode l) (encodes pre), length_encode l) (omega arith)))
-halts-judged (over {l} {m} {c} {pre} e h) p n xs =
+halts_judged (over {l} {m} {c} {pre} e h) p n xs =
     rw (clusters_join l m (joined l m) (pre ++ c ∷ xs) refl e)
-    (halts-judged h (p + (width l + width m)) (n + width (joined l m)) xs
+    (halts_judged h (p + (width l + width m)) (n + width (joined l m)) xs
     ∙ ap (refusal (fault c))
     (rw (
       length-append (encode l) (encode m ++ encodes pre),
@@ -177,7 +177,7 @@ module _ (pre : List ℕ) (b : ℕ) (t : List ℕ) (halts : Halts pre (front (b 
   longer k =
       let x = front (b ∷ take k t) in
       let whole : b ∷ (take k t ++ drop k t) ≡ b ∷ t = ap (λ (l : List ℕ). b ∷ l) (take-append-drop k t) in
-      rw (decode_append pre (halts_scalars halts) (b ∷ take k t), decode-next (b ∷ take k t) (omega arith))
+      rw (decode_append pre (halts_scalars halts) (b ∷ take k t), decode_next (b ∷ take k t) (omega arith))
       (either (eqb x ill)
       (λ q. rw (q, eqb-true x ill q) (ill_bad pre _))
       (λ q.
@@ -206,7 +206,7 @@ placed :
     → FirstBad title (fault c) (length (encodes pre))
 placed title pre post c [] e left h = absurd (omega (arith, ap length (sym (decode_end [] (omega arith)) ∙ left)))
 placed title pre post c (b ∷ t) e left h =
-    let is : front (b ∷ t) ≡ c = head (sym (decode-next (b ∷ t) (omega arith)) ∙ left) in
+    let is : front (b ∷ t) ≡ c = head (sym (decode_next (b ∷ t) (omega arith)) ∙ left) in
     rw (← e, ← is) (at_place pre b t (rw is h))
 
 -- a refusal of a character has the number and the place of the first bad one
@@ -225,7 +225,7 @@ first_bad title e =
       place = length (encodes g.pre);
       same =
           ap (λ (cs : List ℕ). answer_from 0 0 (clusters cs)) g.all
-          ∙ halts-judged g.halts 0 0 g.post
+          ∙ halts_judged g.halts 0 0 g.post
           ∙ ap (refusal (fault g.c)) (zero-add (length (encodes g.pre)));
       first = placed title g.pre g.post g.c r.rest r.bytes r.left g.halts;
     }
@@ -234,7 +234,7 @@ first_bad title e =
 same_character : (c c' : ℕ) (r r' s : List ℕ) → scalar c ≡ true → scalar c' ≡ true → encode c ++ r ≡ s → encode c' ++ r' ≡ s → c ≡ c'
 same_character c c' r r' s e e' h h' = sym (front_encode c r e) ∙ ap front (h ∙ sym h') ∙ front_encode c' r' e'
 
-foreign-loose :
+foreign_loose :
     (c c' : ℕ) (r r' s : List ℕ)
     → encode c ++ r ≡ s
     → scalar c ≡ true
@@ -242,7 +242,7 @@ foreign-loose :
     → encode c' ++ r' ≡ s
     → is_mark c' ≡ true
     → ⊥
-foreign-loose c c' r r' s h e o h' m =
+foreign_loose c c' r r' s h e o h' m =
     clash (mark_in c' m) (rw (same_character c c' r r' s e (mark_scalar c' m) h h') at o)
 
 wrong_one : {k k' : ℕ} {s : List ℕ} → Wrong k s → Wrong k' s → k ≡ k'
@@ -251,17 +251,17 @@ wrong_one (broken f) (foreign c r h e o) = absurd (f c r e h)
 wrong_one (broken f) (loose c r h m) = absurd (f c r (mark_scalar c m) h)
 wrong_one (foreign c r h e o) (broken f) = absurd (f c r e h)
 wrong_one (foreign c r h e o) (foreign c' r' h' e' o') = refl
-wrong_one {s = s} (foreign c r h e o) (loose c' r' h' m) = absurd (foreign-loose c c' r r' s h e o h' m)
+wrong_one {s = s} (foreign c r h e o) (loose c' r' h' m) = absurd (foreign_loose c c' r r' s h e o h' m)
 wrong_one (loose c r h m) (broken f) = absurd (f c r (mark_scalar c m) h)
-wrong_one {s = s} (loose c r h m) (foreign c' r' h' e o) = absurd (foreign-loose c' c r' r s h' e o h m)
+wrong_one {s = s} (loose c r h m) (foreign c' r' h' e o) = absurd (foreign_loose c' c r' r s h' e o h m)
 wrong_one (loose c r h m) (loose c' r' h' m') = refl
 
-pub first-bad-one :
+pub first_bad_one :
     {title : List ℕ} {k k' p p' : ℕ}
     → FirstBad title k p
     → FirstBad title k' p'
     → (k ≡ k') × (p ≡ p')
-first-bad-one {title} {k} {k'} {p} {p'} f g =
+first_bad_one {title} {k} {k'} {p} {p'} f g =
     let not-before = ltb-false p p' (refuted (ltb p p') (λ l. clash g.before (f.longest p' (ltb-true p p' l)))) in
     let not_behind = ltb-false p' p (refuted (ltb p' p) (λ l. clash f.before (g.longest p (ltb-true p' p l)))) in
     let place : p ≡ p' = omega arith in

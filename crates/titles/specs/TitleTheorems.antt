@@ -18,7 +18,7 @@ use Rattle.nfc.proofs.PairsLaws.{joint}
 use Rattle.nfc.proofs.MarksLaws.{mark_within, plain_small}
 use Rattle.titles.specs.ComposeLaws.{long, refused, short, taken, judged_accepts, refused_length}
 use Rattle.nfc.proofs.Composition.{Composes, done, stay, join, letter_plain, joins_mark, accepts_composes}
-use Rattle.nfc.proofs.NfcTheorem.{accepts_nfc, nfc_composed, equal-composed, composed_plain, plain_accepts, plain_composed}
+use Rattle.nfc.proofs.NfcTheorem.{accepts_nfc, nfc_composed, equal_composed, composed_plain, plain_accepts, plain_composed}
 
 -- an outcome with number 0 is an acceptance of all characters, with room
 pub record AcceptedTitle (title out : List ℕ) : Type 0 where
@@ -49,11 +49,11 @@ was_taken title out z =
     })
 
 -- "A refusal .. writes nothing", and its length is 0
-pub refused-nothing :
+pub refused_nothing :
     (title out : List ℕ)
     → ((compose_of title out).answer.number ≡ accepted → ⊥)
     → ((compose_of title out).left ≡ out) × ((compose_of title out).answer.length ≡ 0)
-refused-nothing title out some =
+refused_nothing title out some =
     either (ltb max_title (length title))
     (λ p. rw (long title out p) (refl, refl))
     (λ p.
@@ -115,7 +115,7 @@ text_shorter title a =
 
 -- accepted, lengths aside, exactly when all of the title's characters are in the repertoire, where `nfc` is Unicode's, and its NFC is composed
 -- text; and then the output is the encoding of its NFC
-pub title-nfc :
+pub title_nfc :
     (title out : List ℕ)
     → length title ≤ max_title
     → all_in (decode title) ≡ true
@@ -123,23 +123,23 @@ pub title-nfc :
     → length (encodes (nfc (decode title))) ≤ length out
     → compose_of title out ≡ accepted_with (encodes (nfc (decode title))) out
 unfolding text
-title-nfc title out under known e room =
+title_nfc title out under known e room =
     let a = accepts_nfc (decode title) ∙ and_both _ _ known e in
     taken title _ out (le-ltb max_title (length title) under) a (ap encodes (sym (nfc_composed (decode title) a))) room
 
-pub accepted-nfc :
+pub accepted_nfc :
     (title out : List ℕ)
     → (compose_of title out).answer.number ≡ accepted
     → (all_in (decode title) ≡ true) × (all_plain (nfc (decode title)) ≡ true) × (compose_of title out ≡ accepted_with (encodes (nfc (decode title))) out)
 unfolding text
-accepted-nfc title out z =
+accepted_nfc title out z =
     let t = was_taken title out z in
     let e = sym (accepts_nfc (decode title)) ∙ t.all in
     (and_left (all_in (decode title)) _ e, and_right (all_in (decode title)) _ e, t.whole ∙ rw (nfc_composed (decode title) t.all))
 
 -- two titles of equal NFC, none over the limit, get the same acceptance and, where accepted, the same bytes; the second's characters are in the
 -- repertoire, as those of one that is accepted are
-pub equal-nfc :
+pub equal_nfc :
     (x y out : List ℕ)
     → length x ≤ max_title
     → length y ≤ max_title
@@ -148,9 +148,9 @@ pub equal-nfc :
     → (compose_of x out).answer.number ≡ accepted
     → compose_of y out ≡ compose_of x out
 unfolding text
-equal-nfc x y out ux uy known e z =
+equal_nfc x y out ux uy known e z =
     let t = was_taken x out z in
-    let same = equal-composed (decode x) (decode y) known e t.all in
+    let same = equal_composed (decode x) (decode y) known e t.all in
     taken y (text x) out (le-ltb max_title (length y) uy) same.0 (ap encodes (sym same.1)) t.room ∙ sym t.whole
 
 -- the composed bytes decode to the composed characters
@@ -159,14 +159,14 @@ unfolding text
 decode_text title a = decode_encodes (composed (decode title)) (plain_scalars _ (composed_plain (decode title) a))
 
 -- composed text, within the limit, composes to itself
-pub composed-itself :
+pub composed_itself :
     (value out : List ℕ)
     → composed_text value ≡ true
     → length value ≤ max_title
     → length value ≤ length out
     → compose_of value out ≡ accepted_with value out
 unfolding composed_text text
-composed-itself value out e under room =
+composed_itself value out e under room =
     let same : encodes (composed (decode value)) ≡ value =
     rw (plain_composed (decode value) e) (encodes_decode value (plain_scalars (decode value) e))
     in
@@ -178,21 +178,21 @@ unfolding composed_text
 text_composed title a = rw (decode_text title a) (composed_plain (decode title) a)
 
 -- and so composes to itself
-pub output-itself :
+pub output_itself :
     (title out again : List ℕ)
     → (compose_of title out).answer.number ≡ accepted
     → length (text title) ≤ length again
     → compose_of (text title) again ≡ accepted_with (text title) again
-output-itself title out again z room =
+output_itself title out again z room =
     let t = was_taken title out z in
-    composed-itself (text title) again (text_composed title t.all) (omega (arith, text_shorter title t.all, t.under)) room
+    composed_itself (text title) again (text_composed title t.all) (omega (arith, text_shorter title t.all, t.under)) room
 
 -- a title that composes to itself is composed text, within the limit
-pub itself-composed :
+pub itself_composed :
     (value out : List ℕ)
     → compose_of value out ≡ accepted_with value out
     → (composed_text value ≡ true) × (length value ≤ max_title)
-itself-composed value out e =
+itself_composed value out e =
     let t = was_taken value out (ap (λ (o : Output Composed). o.answer.number) e) in
     let both = sym t.whole ∙ e in
     let size : length (text value) ≡ length value = ap (λ (o : Output Composed). o.answer.length) both in
@@ -214,4 +214,4 @@ length_most title out left r h =
     (λ z.
     let t = was_taken title out (eqb-true _ accepted z) in
     rw t.whole (omega (arith, t.under, text_shorter title t.all)))
-    (λ z. omega (arith, (refused-nothing title out (eqb-false _ accepted z)).1)))
+    (λ z. omega (arith, (refused_nothing title out (eqb-false _ accepted z)).1)))

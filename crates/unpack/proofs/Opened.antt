@@ -12,7 +12,7 @@ use Rattle.slips.specs.Opening.{OpenGives}
 use Rattle.outcomes.specs.Outcome.{Leaves}
 use Rattle.handing.specs.Handing.{handed_of}
 use Rattle.unpack.specs.Unpack.{table_of}
-use Rattle.unpack.specs.CellsLaws.{table-back}
+use Rattle.unpack.specs.CellsLaws.{table_back}
 
 -- the table opened is that of the rows read
 pub opened_table : {s : List ℕ} {r : Opened} {types counts lengths values labels : List ℕ} → OpenGives s r types counts lengths values labels
@@ -24,7 +24,7 @@ opened_table {s} {r} {types} {counts} {lengths} {values} o a b c =
     let ls = length-take-le r.rows lengths c in
     let vs = length-take-le r.used values o.room in
     sym
-    (table-back (take r.rows types) (take r.rows counts) (take r.rows lengths) (take r.used values)
+    (table_back (take r.rows types) (take r.rows counts) (take r.rows lengths) (take r.used values)
     (cs ∙ sym ts) (ls ∙ sym ts) (o.formed ∙ sym ts) (vs ∙ o.used))
     ∙ ap table_of o.rows
 

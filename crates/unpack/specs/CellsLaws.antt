@@ -60,13 +60,13 @@ back k (t ∷ ts) (c ∷ cs) (l ∷ ls) vs a b f s =
       values = ap₂ (λ (x y : List ℕ). x ++ y) here.value r.values ∙ take-append-drop l vs;
     }
 
-pub table-back :
+pub table_back :
     (ts cs ls vs : List ℕ)
     → length cs ≡ length ts
     → length ls ≡ length ts
     → first_bad 0 ts cs ls ≡ length ts
     → length vs ≡ sum ls
     → table_of (entries ts cs ls vs) ≡ table ts cs ls vs
-table-back ts cs ls vs a b f s =
+table_back ts cs ls vs a b f s =
     let r = back 0 ts cs ls vs a b (f ∙ omega arith) s in
     rw (r.types, r.counts, r.lengths, r.values)

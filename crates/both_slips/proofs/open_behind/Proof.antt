@@ -1,10 +1,10 @@
 use native.Mathlib.Nat.{le_refl}
-use Rattle.both_slips.proofs.Holding.{types_in, counts_in, lengths_in, values_in, labels_in, cells_fit, labels_fit, behind-lent, behind_opens}
+use Rattle.both_slips.proofs.Holding.{types_in, counts_in, lengths_in, values_in, labels_in, cells_fit, labels_fit, behind_lent, behind_opens}
 use Rattle.both_slips.proofs.open_behind.Statement.{statement}
 use Rattle.both_slips.proofs.open_behind.Tie as tie
 
 open-in-requires : tie.Need-open-in-requires
-open-in-requires c κs = behind-lent c.before.before.before.before.before.before.before.before.before.before.before.requires
+open-in-requires c κs = behind_lent c.before.before.before.before.before.before.before.before.before.before.before.requires
 
 returns : tie.Need-returns
 returns c =

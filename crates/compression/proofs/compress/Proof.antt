@@ -1,10 +1,10 @@
 use Rattle.std.proofs.Common.{rules}
-use Rattle.compression.proofs.Steps.{compress-is}
+use Rattle.compression.proofs.Steps.{compress_is}
 use Rattle.compression.proofs.compress.Statement.{statement}
 use Rattle.compression.proofs.compress.Tie as tie
 
 returns : tie.Need-returns
-returns c = compress-is _ _ c.before.before.before.schedule.ensures c.before.mixed.ensures c.added.ensures
+returns c = compress_is _ _ c.before.before.before.schedule.ensures c.before.mixed.ensures c.added.ensures
 
 pub compress-spec : {M : Type 1} → statement M
 compress-spec =

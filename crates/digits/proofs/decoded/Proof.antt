@@ -7,7 +7,7 @@ use borrow.Author.Tests.{eqb-true, eqb-false}
 use lib.Dec.{eqb}
 use lib.ListN.{length, take, drop, length-set, length-drop}
 use Rattle.digits.specs.Digits.{is_hex, bytes_of}
-use Rattle.digits.proofs.Spelling.{bad_first, bad_second, hex_more, bytes-more, end_bytes, end_hex}
+use Rattle.digits.proofs.Spelling.{bad_first, bad_second, hex_more, bytes_more, end_bytes, end_hex}
 use borrow.Author.Rules.{rules}
 use Rattle.digits.proofs.decoded.Statement.{statement}
 use Rattle.digits.proofs.decoded.Tie as tie
@@ -50,7 +50,7 @@ loop-again c =
       search rules,
       simp length-set l.invariant.1,
       l.invariant.2 ∙ hex_more d l.i there (omega (arith, first)) (omega (arith, second)),
-      bytes-more d l.i there l.out _ _ first second (omega arith) l.invariant.3,
+      bytes_more d l.i there l.out _ _ first second (omega arith) l.invariant.3,
     )
 
 -- the digits behind the last whole byte

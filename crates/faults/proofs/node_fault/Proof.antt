@@ -9,7 +9,7 @@ use Rattle.outcomes.specs.Refusals.{salt_broken}
 use Rattle.trees.specs.Rows.{Tag, node, highest_of, kids, step_of}
 use Rattle.titles.specs.Compose.{composed_text}
 use Rattle.faults.specs.Waiting.{StackColumns, kind_of, height_of, size_of, greatest, step_fault}
-use Rattle.faults.specs.WaitingLaws.{kids-column, columns_long, greatest_is}
+use Rattle.faults.specs.WaitingLaws.{kids_column, columns_long, greatest_is}
 use Rattle.faults.specs.Steps.{too_few, too_high_lem, by_salt}
 use Rattle.faults.proofs.node_fault.Statement.{statement}
 use Rattle.faults.proofs.node_fault.Tie as tie
@@ -38,7 +38,7 @@ highest-is :
     → length st ≡ d
     → high ≡ greatest (take (length heights - (d - count)) (drop (d - count) heights))
     → high ≡ highest_of (kids count st)
-highest-is st count d high cols e h = h ∙ ap greatest (kids-column st count height_of d e cols.heights_are) ∙ greatest_is (kids count st)
+highest-is st count d high cols e h = h ∙ ap greatest (kids_column st count height_of d e cols.heights_are) ∙ greatest_is (kids count st)
 
 returns-2 : tie.Need-returns-2
 returns-2 c =
@@ -60,8 +60,8 @@ salt c H st cols =
     let is : high.result ≡ highest_of (kids a.count st) = highest-is st a.count _ _ cols n high.ensures.0 in
     by_salt H composed_text st a.count (omega arith) c.salt-rule.result (omega arith)
     (c.salt-rule.ensures (kids a.count st)
-    (kids-column st a.count kind_of (length a.kinds.now) n cols.kinds_are)
-    (kids-column st a.count size_of (length a.kinds.now) n cols.sizes_are))
+    (kids_column st a.count kind_of (length a.kinds.now) n cols.kinds_are)
+    (kids_column st a.count size_of (length a.kinds.now) n cols.sizes_are))
 
 returns-3 : tie.Need-returns-3
 returns-3 c = λ H st cols. ap (λ (b : Bool). cond b 0 salt_broken) (sym c.if3.true) ∙ salt c.before H st cols

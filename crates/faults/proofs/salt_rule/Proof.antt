@@ -7,7 +7,7 @@ use borrow.Author.Tests.{not-true, not-false}
 use lib.Dec.{eqb, leb}
 use lib.ListN.{length, drop}
 use Rattle.trees.specs.Rules.{salt_type}
-use Rattle.faults.proofs.Salt.{later, keeps, keeps-salted, short_salt, whole_salt, no_salt, second_salt, unsalted, behind_salt_on, bare_on, later_end}
+use Rattle.faults.proofs.Salt.{later, keeps, keeps_salted, short_salt, whole_salt, no_salt, second_salt, unsalted, behind_salt_on, bare_on, later_end}
 use Rattle.faults.proofs.salt_rule.Statement.{statement}
 use Rattle.faults.proofs.salt_rule.Tie as tie
 
@@ -26,7 +26,7 @@ returns c =
     let size = c.before.before.cell2 in
     λ gs p q.
     sym (short_salt kinds sizes first.ensures.0 size.ensures.0 c.before.if1.true (not-true _ c.if2.true))
-    ∙ keeps-salted gs (search rules) p q
+    ∙ keeps_salted gs (search rules) p q
 
 loop-holds : tie.Need-loop-init invariant-loop decreases-loop
 loop-holds c =
@@ -52,7 +52,7 @@ returns-2 c =
     (l.invariant.2
     ∙ ap (λ (b : Bool). b && leb first salt_type)
     (second_salt kinds l.i first c.before.before.loop-test.true c.before.cell3.ensures.0 c.if3.true))
-    ∙ keeps-salted gs (search rules) p q
+    ∙ keeps_salted gs (search rules) p q
 
 returns-3 : tie.Need-returns-3 invariant-loop decreases-loop
 returns-3 c =
@@ -64,7 +64,7 @@ returns-3 c =
     (l.invariant.2
     ∙ ap (λ (b : Bool). b && leb first salt_type)
     (unsalted kinds l.i first c.before.before.before.before.loop-test.true c.before.before.before.cell3.ensures.0 c.before.if4.true c.if5.true))
-    ∙ keeps-salted gs (search rules) p q
+    ∙ keeps_salted gs (search rules) p q
 
 loop-again : tie.Need-loop-preserved invariant-loop decreases-loop
 loop-again c =
@@ -91,7 +91,7 @@ returns-4 c =
     let first = c.before.before.before.before.cell.result in
     λ gs p q.
     sym (l.invariant.2 ∙ ap (λ (b : Bool). b && leb first salt_type) (later_end (eqb first salt_type) kinds l.i c.loop-test.false))
-    ∙ keeps-salted gs (search rules) p q
+    ∙ keeps_salted gs (search rules) p q
 
 pub salt-rule-spec : {M : Type 1} → statement M
 salt-rule-spec =

@@ -1,17 +1,17 @@
 use mathlib.Core.Path.{refl, sym, ◌∙◌}
 use lib.ListN.{length}
 use Rattle.tables.specs.Tables.{table}
-use Rattle.handing.proofs.Copying.{Fits, fits_told, handed-lacking, handed-taken, copied_whole}
-use Rattle.handing.specs.HandingLaws.{handed-refused}
+use Rattle.handing.proofs.Copying.{Fits, fits_told, handed_lacking, handed_taken, copied_whole}
+use Rattle.handing.specs.HandingLaws.{handed_refused}
 use Rattle.handing.proofs.hand_out.Statement.{statement}
 use Rattle.handing.proofs.hand_out.Tie as tie
 
 returns : tie.Need-returns
-returns c = handed-refused _ _ _ _ _ _ _ _ c.if1.true refl refl refl refl refl
+returns c = handed_refused _ _ _ _ _ _ _ _ c.if1.true refl refl refl refl refl
 
 returns-2 : tie.Need-returns-2
 returns-2 c =
-    handed-lacking _ _ _ _ _ _ _ _ c.before.before.before.if1.false (sym c.before.before.lacks-room.ensures ∙ c.before.if2.true) c.refused.ensures refl refl refl refl
+    handed_lacking _ _ _ _ _ _ _ _ c.before.before.before.if1.false (sym c.before.before.lacks-room.ensures ∙ c.before.if2.true) c.refused.ensures refl refl refl refl
 
 -- every part fits its buffer where the test for room has passed
 roomy :
@@ -35,7 +35,7 @@ copy-requires c κs = (roomy c.before.before.before.before.before.before.before.
 returns-3 : tie.Need-returns-3
 returns-3 c =
     let a = c.before.before.before.before.before.before.before.before.before.before.before.before.before.before.before.before.before.before.before.before.before.before.before.before.before.before.before.before.args in
-    handed-taken _ _ _ _ _ _ _ _ c.before.before.before.before.before.before.before.before.before.before.before.before.before.before.before.before.before.before.if1.false (sym c.before.before.before.before.before.before.before.before.before.before.before.before.before.before.before.before.before.lacks-room.ensures ∙ c.before.before.before.before.before.before.before.before.before.before.before.before.before.before.before.before.if2.false) refl
+    handed_taken _ _ _ _ _ _ _ _ c.before.before.before.before.before.before.before.before.before.before.before.before.before.before.before.before.before.before.if1.false (sym c.before.before.before.before.before.before.before.before.before.before.before.before.before.before.before.before.before.lacks-room.ensures ∙ c.before.before.before.before.before.before.before.before.before.before.before.before.before.before.before.before.if2.false) refl
     c.before.before.before.before.before.before.before.before.before.before.before.before.before.before.copy-cells.ensures
     c.before.before.before.before.before.before.before.before.before.before.copy-cells2.ensures
     c.before.before.before.before.before.before.copy-cells3.ensures

@@ -1,4 +1,4 @@
-use Rattle.handing.proofs.Copying.{lacks_types, lacks_counts, lacks_lengths, lacks-values}
+use Rattle.handing.proofs.Copying.{lacks_types, lacks_counts, lacks_lengths, lacks_values}
 use Rattle.handing.proofs.lacks_room.Statement.{statement}
 use Rattle.handing.proofs.lacks_room.Tie as tie
 
@@ -12,7 +12,7 @@ returns-3 : tie.Need-returns-3
 returns-3 c = lacks_lengths _ _ _ _ _ c.before.before.if1.false c.before.if2.false c.if3.true
 
 returns-4 : tie.Need-returns-4
-returns-4 c = lacks-values _ _ _ _ _ c.before.before.if1.false c.before.if2.false c.if3.false
+returns-4 c = lacks_values _ _ _ _ _ c.before.before.if1.false c.before.if2.false c.if3.false
 
 pub lacks-room-spec : {M : Type 1} → statement M
 lacks-room-spec =

@@ -5,7 +5,7 @@ use native.Mathlib.Omega.{arith}
 use mir.Syntax.{w64}
 use mir.Val.{Fits}
 use lib.ListN.{length, get_or, length-take, length-drop}
-use Rattle.pick_rows.proofs.Picking.{Going, value_part, label_part, value_in, value_room, going_none, going-puts, going_more, going-all}
+use Rattle.pick_rows.proofs.Picking.{Going, value_part, label_part, value_in, value_room, going_none, going_puts, going_more, going_all}
 use Rattle.tables.specs.Tables.{entries}
 use Rattle.prune_rows.specs.Picked.{label_rows}
 use borrow.Author.Count.{falls}
@@ -52,7 +52,7 @@ turn-requires c κs =
     let some = marked c.before.before.before.before.before.before.before.before.before.before.before in (
       p.0.cuts l.i here,
       simp (length-take, length-drop) (omega (arith, here, p.0.labels_room)),
-      going-puts p.0 l.invariant.5 here some _ (value_part a.values.now l.at c.before.before.before.before.before.before.before.before.before.before.cell.result _ c.before.before.before.before.before.before.before.before.before.before.cell.ensures.0)
+      going_puts p.0 l.invariant.5 here some _ (value_part a.values.now l.at c.before.before.before.before.before.before.before.before.before.before.cell.result _ c.before.before.before.before.before.before.before.before.before.before.cell.ensures.0)
           (omega (arith, r.types_room, l.invariant.1)) (omega (arith, r.counts_room, l.invariant.2)) (omega (arith, r.lengths_room, l.invariant.3))
           (omega (arith, r.values_room, l.invariant.4)),
       value_room p.0 l.invariant.5 here some (length l.values2) (omega (arith, r.values_room, l.invariant.4)),
@@ -76,7 +76,7 @@ loop-again c =
     )
 
 returns : tie.Need-returns invariant-loop decreases-loop
-returns c = going-all c.before.before.before.before.before.before.before.before.before.before.before.before.requires.0 c.loop-test.false c.before.loop.invariant.0 c.before.loop.invariant.5
+returns c = going_all c.before.before.before.before.before.before.before.before.before.before.before.before.requires.0 c.loop-test.false c.before.loop.invariant.0 c.before.loop.invariant.5
 
 -- the columns have row i, whose cells' places fit, and the labels its label
 row_in :

@@ -4,7 +4,7 @@ use native.Mathlib.Omega.{arith}
 use Rattle.trees.specs.Rows.{node, tip}
 use Rattle.tables.specs.Tables.{entry_of}
 use Rattle.faults.specs.Steps.{entry_tip, entry_node}
-use Rattle.stack.proofs.Hashing.{ready-as, grows-as, leaf_room, leaf-grows}
+use Rattle.stack.proofs.Hashing.{ready_as, grows_as, leaf_room, leaf_grows}
 use Rattle.stack.proofs.grow.Statement.{statement}
 use Rattle.stack.proofs.grow.Tie as tie
 
@@ -12,14 +12,14 @@ push-requires : tie.Need-push-requires
 push-requires c κs =
     let start = c.before.before.before.before.before.before.before.before.before.before.before in
     let a = start.args in
-    leaf_room a.s a.kind a.value.now a.i (ready-as (entry_tip a.kind a.count a.value.now c.before.before.before.before.if1.true) start.requires)
+    leaf_room a.s a.kind a.value.now a.i (ready_as (entry_tip a.kind a.count a.value.now c.before.before.before.before.if1.true) start.requires)
 
 hash-requires : tie.Need-hash-requires
 hash-requires c κs =
     let start = c.before.before.before.before.before.before.before.before.before.before.before.before in
     let a = start.args in
     let some : 0 < a.count = omega (arith, c.before.before.before.before.before.if1.false) in
-    ready-as (entry_node a.kind a.count a.value.now some) start.requires
+    ready_as (entry_node a.kind a.count a.value.now some) start.requires
 
 returns : tie.Need-returns
 returns c =
@@ -28,7 +28,7 @@ returns c =
     let is : entry_of a.kind a.count a.value.now ≡ tip a.kind a.value.now =
     entry_tip a.kind a.count a.value.now c.before.before.before.before.before.before.before.before.before.before.before.before.before.if1.true in
     λ st l.
-    grows-as is (leaf-grows a.s a.kind a.value.now a.i (ready-as is start.requires) st l c.before.before.before.before.before.before.before.before.push.ensures)
+    grows_as is (leaf_grows a.s a.kind a.value.now a.i (ready_as is start.requires) st l c.before.before.before.before.before.before.before.before.push.ensures)
 
 returns-2 : tie.Need-returns-2
 returns-2 c =
@@ -37,7 +37,7 @@ returns-2 c =
     let some : 0 < a.count = omega (arith, c.before.before.before.before.before.before.before.before.before.before.before.before.before.before.before.before.if1.false) in
     let is : entry_of a.kind a.count a.value.now ≡ node a.count = entry_node a.kind a.count a.value.now some in
     λ st l.
-    grows-as is (c.before.before.before.before.before.before.before.before.before.before.hash.ensures st l)
+    grows_as is (c.before.before.before.before.before.before.before.before.before.before.hash.ensures st l)
 
 pub grow_spec : {M : Type 1} → statement M
 grow_spec =

@@ -7,7 +7,7 @@ use borrow.Author.Rules.{rules}
 use lib.ListN.{length, drop, length-take, length-drop}
 use Rattle.trees.specs.Rules.{label_bytes}
 use Rattle.lists.specs.PartsLaws.{put_is}
-use Rattle.stack.proofs.Hashing.{there, counted, parent_fits, prelabel_small, blocks_fit, parent_label, parent_room, node-grows}
+use Rattle.stack.proofs.Hashing.{there, counted, parent_fits, prelabel_small, blocks_fit, parent_label, parent_room, node_grows}
 use Rattle.stack.proofs.hash.Statement.{statement}
 use Rattle.stack.proofs.hash.Tie as tie
 
@@ -67,7 +67,7 @@ returns c =
     let at : ℕ = label_bytes * start.args.i in
     let all : at + (length labels - at) ≡ length labels = omega (arith, start.requires.labels_room) in
     λ st l.
-    node-grows start.args.s start.args.count start.args.i start.requires parent.ensures st l
+    node_grows start.args.s start.args.count start.args.i start.requires parent.ensures st l
     (ap (λ (n : ℕ). start.args.s.blocks + n) c.before.before.before.before.before.before.before.before.before.before.before.before.before.before.before.before.before.before.before.before.before.blocks-of.ensures)
     (put_is labels parent.result.label _ at (length labels - at) all c.before.before.before.before.before.before.before.before.before.before.before.before.before.before.before.before.copy.ensures.1)
     c.before.before.before.before.before.before.before.before.push.ensures

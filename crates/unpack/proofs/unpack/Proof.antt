@@ -6,7 +6,7 @@ use Rattle.slips.specs.declared.header.Header.{Header}
 use Rattle.answers.specs.Answers.{refused}
 use Rattle.unpack.specs.Unpack.{unpack_of}
 use Rattle.slips.specs.HeaderLaws.{header_told, check_refused, check_body}
-use Rattle.handing.specs.HandingLaws.{handed-refused}
+use Rattle.handing.specs.HandingLaws.{handed_refused}
 use Rattle.unpack.proofs.Opened.{handed_as}
 use borrow.Author.Rules.{rules}
 use Rattle.unpack.proofs.unpack.Statement.{statement}
@@ -18,7 +18,7 @@ returns c =
     let e = c.before.before.before.header_of.ensures in
     let n = ap (λ (h : Header). h.number) e in
     let r = check_refused Sha256.label composed_text _ (λ q. c.before.if1.true (n ∙ q)) in
-    handed-refused _ _ _ _ _ _ _ _ (λ q. c.before.if1.true (n ∙ ap (λ (x : Answer). x.number) r ∙ q))
+    handed_refused _ _ _ _ _ _ _ _ (λ q. c.before.if1.true (n ∙ ap (λ (x : Answer). x.number) r ∙ q))
     (c.refused.ensures ∙ ap (λ (h : Header). refused h.number 0) e ∙ r) refl refl refl refl
 
 unpack-taken-requires : tie.Need-unpack-taken-requires

@@ -1,6 +1,6 @@
 -- `first` meets its contract: each branch is that of the first byte.
 use mathlib.Core.Path.{sym, ◌∙◌}
-use Rattle.nfc.specs.FrontsLaws.{front_1, front_2, front-3, front-4}
+use Rattle.nfc.specs.FrontsLaws.{front_1, front_2, front_3, front_4}
 use Rattle.utf8.proofs.first.Goals as goal
 
 pub returns-then-a-lt128 : goal.returns-then-a-lt128
@@ -20,7 +20,7 @@ returns-then-a-lt240 c =
     let a = c.byte-a.ensures.0 in
     let b = c.byte-b.ensures.0 in
     c.three.ensures
-    ∙ sym (front-3 x.s.now x.at _ _ _ a b c.byte-c.ensures.0 c.if-a-lt224.false c.if-a-lt240.true)
+    ∙ sym (front_3 x.s.now x.at _ _ _ a b c.byte-c.ensures.0 c.if-a-lt224.false c.if-a-lt240.true)
 
 pub returns : goal.returns
 returns c =
@@ -29,4 +29,4 @@ returns c =
     let b = c.byte-b.ensures.0 in
     let third = c.byte-c.ensures.0 in
     c.four.ensures
-    ∙ sym (front-4 x.s.now x.at _ _ _ _ a b third c.byte.ensures.0 c.if-a-lt240.false)
+    ∙ sym (front_4 x.s.now x.at _ _ _ _ a b third c.byte.ensures.0 c.if-a-lt240.false)

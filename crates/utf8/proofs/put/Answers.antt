@@ -3,7 +3,7 @@ use Prim.Native.Nat.{◌≤◌, ◌<◌, ◌+◌, ◌/◌}
 use native.Mathlib.Omega.{arith}
 use lib.ListN.{length, length-set}
 use Rattle.nfc.specs.BoundsLaws.{width_1, width_2, encode_1, encode_2}
-use Rattle.lists.specs.PartsLaws.{one_more, take-stores}
+use Rattle.lists.specs.PartsLaws.{one_more, take_stores}
 use Rattle.nfc.specs.Utf8.{follow}
 use Rattle.utf8.proofs.put.Goals as goal
 
@@ -30,5 +30,5 @@ returns c =
     let w = width_2 a.c h (omega arith) in
     let room : a.n + 1 < length a.text.now = omega (arith, w) in (
       omega (arith, w),
-      rw (encode_2 a.c h (omega arith)) (take-stores a.text.now a.n (0xC0 + a.c / 0x40) (follow a.c) room),
+      rw (encode_2 a.c h (omega arith)) (take_stores a.text.now a.n (0xC0 + a.c / 0x40) (follow a.c) room),
     )

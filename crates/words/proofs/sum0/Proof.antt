@@ -1,10 +1,10 @@
-use Rattle.words.proofs.Functions.{three-is}
+use Rattle.words.proofs.Functions.{three_is}
 use borrow.Author.Rules.{rules}
 use Rattle.words.proofs.sum0.Statement.{statement}
 use Rattle.words.proofs.sum0.Tie as tie
 
 returns : tie.Need-returns
-returns c = three-is 2 13 22 c.before.before.before.args.x c.before.before.rotr.ensures c.before.rotr2.ensures c.rotr3.ensures
+returns c = three_is 2 13 22 c.before.before.before.args.x c.before.before.rotr.ensures c.before.rotr2.ensures c.rotr3.ensures
 
 pub sum0-spec : {M : Type 1} → statement M
 sum0-spec = tie.close (tie.spec (λ c κs. search rules) (λ c κs. search rules) (λ c κs. search rules) returns)

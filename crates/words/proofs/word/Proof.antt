@@ -1,5 +1,5 @@
 use native.Mathlib.Omega.{arith}
-use Rattle.words.proofs.Functions.{word-is}
+use Rattle.words.proofs.Functions.{word_is}
 use Rattle.words.proofs.word.Statement.{statement}
 use Rattle.words.proofs.word.Tie as tie
 
@@ -8,7 +8,7 @@ returns c =
     let a = c.before.before.before.before.before.before.before.before.before.args in
     omega (
       arith,
-      word-is a.b.now a.at c.before.before.before.before.before.before.before.before.before.requires,
+      word_is a.b.now a.at c.before.before.before.before.before.before.before.before.before.requires,
       c.before.before.before.before.before.before.wide.ensures.0,
       c.before.before.before.before.wide2.ensures.0,
       c.before.before.wide3.ensures.0,

@@ -1,6 +1,6 @@
 use mathlib.Core.Path.{sym, ◌∙◌}
 use native.Mathlib.Omega.{arith}
-use Rattle.characters.proofs.Searches.{sought-next, sought_end, rows}
+use Rattle.characters.proofs.Searches.{sought_next, sought_end, rows}
 use Rattle.characters.proofs.pairs.composite.Goals as goal
 
 pub loop-i-init : goal.loop-i-init
@@ -14,14 +14,14 @@ pub returns-then-is_row : goal.returns-then-is_row
 returns-then-is_row c =
     let a = c.args in
     let l = c.loop-i in
-    let next = sought-next a.table.now l.i a.letter a.mark (omega arith) in
+    let next = sought_next a.table.now l.i a.letter a.mark (omega arith) in
     c.wide.ensures ∙ sym (l.invariant.3 ∙ next ∙ rw (← c.is_row.ensures, c.if-is_row.true))
 
 pub loop-i-preserved : goal.loop-i-preserved
 loop-i-preserved c =
     let a = c.args in
     let l = c.loop-i in
-    let next = sought-next a.table.now l.i a.letter a.mark (omega arith) in
+    let next = sought_next a.table.now l.i a.letter a.mark (omega arith) in
     (l.invariant.0, omega arith, omega arith, l.invariant.3 ∙ next ∙ rw (← c.is_row.ensures, c.if-is_row.false))
 
 pub returns : goal.returns

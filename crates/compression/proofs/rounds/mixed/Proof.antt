@@ -1,7 +1,7 @@
 use Rattle.std.proofs.Common.{◌≡◌, ◌-◌, ◌*◌, ◌≤◌, refl, arith, lit<, lit≤}
 use Rattle.compression.specs.Compression.{rounds}
 use Rattle.words.specs.Sha256.{sha256}
-use Rattle.compression.proofs.Steps.{rounds-more, eight}
+use Rattle.compression.proofs.Steps.{rounds_more, eight}
 use Rattle.compression.proofs.Turns.{first_fits, first_below, step_fits, step_below, next_fits, next_few, nearer}
 use Rattle.compression.proofs.rounds.mixed.Statement.{statement}
 use Rattle.compression.proofs.rounds.mixed.Tie as tie
@@ -21,7 +21,7 @@ loop-again c =
     let at = c.before.before.before.before.before.before.before.before.before in
     let few = c.before.before.before.before.before.before.before.before.loop-test.true in (
       next_few few,
-      eight (rounds-more _ _ at.before.requires) at.loop.turn few at.loop.invariant.1
+      eight (rounds_more _ _ at.before.requires) at.loop.turn few at.loop.invariant.1
           c.before.before.before.before.before.before.before.round.ensures
           c.before.before.before.before.before.before.round2.ensures
           c.before.before.before.before.before.round3.ensures

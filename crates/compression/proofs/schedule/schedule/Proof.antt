@@ -2,7 +2,7 @@ use Rattle.std.proofs.Common.{◌≡◌, ◌-◌, ◌*◌, ◌≤◌, length, sy
 use Rattle.words.specs.Words.{words}
 use Rattle.compression.specs.Compression.{schedule}
 use Rattle.words.specs.Sha256.{constants}
-use Rattle.compression.proofs.Steps.{Begins, schedule-more, eight}
+use Rattle.compression.proofs.Steps.{Begins, schedule_more, eight}
 use Rattle.compression.proofs.Turns.{first_fits, first_below, step_fits, step_below, next_fits, next_few, nearer, later}
 use Rattle.compression.proofs.schedule.schedule.Statement.{statement}
 use Rattle.compression.proofs.schedule.schedule.Tie as tie
@@ -22,7 +22,7 @@ loop-again c =
     let at = c.before.before.before.before.before.before.before.before.before.before.before.before.before.before.before.before.before in
     let few = c.before.before.before.before.before.before.before.before.before.before.before.before.before.before.before.before.loop-test.true in (
       next_few few,
-      eight (schedule-more _) at.loop.turn few at.loop.invariant.1
+      eight (schedule_more _) at.loop.turn few at.loop.invariant.1
           c.before.before.before.before.before.before.before.before.before.before.before.before.before.before.lay.ensures
           c.before.before.before.before.before.before.before.before.before.before.before.before.lay2.ensures
           c.before.before.before.before.before.before.before.before.before.before.lay3.ensures

@@ -5,7 +5,7 @@ use borrow.Author.Rules.{rules}
 use lib.ListN.{length}
 use lib.Seq.{length-take-le}
 use Rattle.sha256.specs.Sha256 as Sha256
-use Rattle.engine.proofs.Going.{Turn, going_start, lent-kept}
+use Rattle.engine.proofs.Going.{Turn, going_start, lent_kept}
 use Rattle.engine.proofs.Turns.{waiting_alike, value_fits, stopped, ready, going_next, done, stands}
 use Rattle.engine.proofs.judge.judge_in.Statement.{statement}
 use Rattle.engine.proofs.judge.judge_in.Tie as tie
@@ -127,7 +127,7 @@ loop-again c =
       work_same = g.auto.1.1.1.1.1.1.1.1.0 ∙ t.work_same;
       labels_same = g.auto.1.1.1.1.1.1.1.1.1.0 ∙ t.labels_same;
       lent =
-          lent-kept a.types.now a.counts.now a.lengths.now a.values.now _ _ _ _ _ t.lent g.auto.1.1.1.1.1.0
+          lent_kept a.types.now a.counts.now a.lengths.now a.values.now _ _ _ _ _ t.lent g.auto.1.1.1.1.1.0
           g.auto.1.1.1.1.1.1.0 g.auto.1.1.1.1.1.1.1.0 g.auto.1.1.1.1.1.1.1.1.0 g.auto.1.1.1.1.1.1.1.1.1.0;
       going =
           going_next a.types.now a.counts.now a.lengths.now a.values.now l.i l.at t.lent t.going

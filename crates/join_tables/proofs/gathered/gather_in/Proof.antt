@@ -3,7 +3,7 @@ use mathlib.Core.Path.{sym}
 use native.Mathlib.Omega.{arith}
 use lib.ListN.{length}
 use lib.Seq.{length-take-le}
-use Rattle.join_tables.proofs.Delivering.{gathered-as}
+use Rattle.join_tables.proofs.Delivering.{gathered_as}
 use borrow.Author.Rules.{rules}
 use Rattle.join_tables.proofs.gathered.gather_in.Statement.{statement}
 use Rattle.join_tables.proofs.gathered.gather_in.Tie as tie
@@ -50,10 +50,10 @@ count-4 : tie.Need-slice-aggregate-deliver-4
 count-4 c = sym (length-take-le _ _ (within c.before.before.before.before.before.before.before.before.before.before.before.before).3)
 
 deliver-requires : tie.Need-deliver-requires
-deliver-requires c κs = let p = c.before.before.before.before.before.before.before.before.before.before.before.before.before.before.before.before.before.before.before.before.before.before.before.before.before.before.before.before.before.requires.0 in record { tree = p.tree; table = gathered-as c.before.before.before.before.before.before.before.before.before.before.before.before.before.gather.ensures p.table }
+deliver-requires c κs = let p = c.before.before.before.before.before.before.before.before.before.before.before.before.before.before.before.before.before.before.before.before.before.before.before.before.before.before.before.before.before.requires.0 in record { tree = p.tree; table = gathered_as c.before.before.before.before.before.before.before.before.before.before.before.before.before.gather.ensures p.table }
 
 returns : tie.Need-returns
-returns c n t e = c.before.before.deliver.ensures n (gathered-as c.before.before.before.before.before.before.before.before.before.before.before.before.before.before.before.before.gather.ensures t) e
+returns c n t e = c.before.before.deliver.ensures n (gathered_as c.before.before.before.before.before.before.before.before.before.before.before.before.before.before.before.before.gather.ensures t) e
 
 pub gather-in-spec : {M : Type 1} → statement M
 gather-in-spec =

@@ -6,7 +6,7 @@ use lib.ListN.{length, drop}
 use borrow.Author.Count.{falls}
 use borrow.Author.Rules.{rules, zero≤}
 use Rattle.lookup.specs.Lookup.{At, first_of, held_by}
-use Rattle.lookup.proofs.Rows.{first_here, first-later, first_none}
+use Rattle.lookup.proofs.Rows.{first_here, first_later, first_none}
 use Rattle.lookup.proofs.held.first_of.Statement.{statement}
 use Rattle.lookup.proofs.held.first_of.Tie as tie
 
@@ -38,7 +38,7 @@ loop-again : tie.Need-loop-preserved invariant-loop decreases-loop
 loop-again c =
     let l = c.before.before.before.before.loop in
     let h = both-have c.before.before.before in
-    let rest = l.invariant.2 ∙ first-later _ l.start _ _ l.i h.0 h.1 c.if1.false in
+    let rest = l.invariant.2 ∙ first_later _ l.start _ _ l.i h.0 h.1 c.if1.false in
     (rw add-one h.0, omega (arith, c.before.before.cell.ensures.1, l.invariant.1), rw c.before.before.cell.ensures.0 rest)
 
 returns-2 : tie.Need-returns-2 invariant-loop decreases-loop

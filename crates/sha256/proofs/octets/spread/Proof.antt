@@ -7,7 +7,7 @@ use lib.Seq.{take_all, paste, length-paste}
 use borrow.Rule.Slice.PartMut.{put_mid}
 use Rattle.words.specs.Words.{spread}
 use Rattle.sha256.specs.Blocks.{length_bytes}
-use Rattle.sha256.proofs.Bytes.{spread-more}
+use Rattle.sha256.proofs.Bytes.{spread_more}
 use Rattle.lists.specs.PartsLaws.{put_is}
 use borrow.Author.Rules.{rules}
 use Rattle.sha256.proofs.octets.spread.Statement.{statement}
@@ -38,7 +38,7 @@ loop-again c =
     let room : 4 * l.i + 4 ≤ length l.out = omega arith in (
       search rules,
       ap length put ∙ length-paste l.out (4 * l.i) four (length four) fits (le_refl _) ∙ l.invariant.1,
-      ap (take (4 * (l.i + 1))) put ∙ spread-more h l.out four l.i in-h room l.invariant.2 c.before.before.before.before.word-octets.ensures,
+      ap (take (4 * (l.i + 1))) put ∙ spread_more h l.out four l.i in-h room l.invariant.2 c.before.before.before.before.word-octets.ensures,
     )
 
 returns : tie.Need-returns invariant-loop decreases-loop

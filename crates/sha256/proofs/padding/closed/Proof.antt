@@ -3,7 +3,7 @@ use mathlib.Core.Path.{◌≡◌, sym, ap}
 use mathlib.Core.List.{List}
 use native.Mathlib.Omega.{arith}
 use lib.ListN.{length, take, set, length-take, length-set}
-use Rattle.sha256.proofs.Bytes.{closing-laid}
+use Rattle.sha256.proofs.Bytes.{closing_laid}
 use Rattle.lists.specs.PartsLaws.{put_is}
 use lib.Seq.{length-take-le}
 use borrow.Author.Rules.{rules}
@@ -37,7 +37,7 @@ returns c =
     let room : a.rest ≤ length a.t1 = search rules in
     let wide : a.end - 8 + (128 - (a.end - 8)) ≡ length area =
     omega (arith, length-set k.new.1.0 a.rest 128, k.auto.1.0) in
-    closing-laid last area _ field.result a.rest a.bits a.end
+    closing_laid last area _ field.result a.rest a.bits a.end
     (sym (length-take-le a.rest a.t1 room))
     (search rules)
     (search rules)

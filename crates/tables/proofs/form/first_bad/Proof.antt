@@ -4,7 +4,7 @@ use lib.ListN.{get_or, length, drop}
 use Rattle.tables.specs.Tables.{row_fits, first_bad}
 use mathlib.Core.Path.{◌≡◌, refl, sym, ◌∙◌}
 use native.Mathlib.Numerals.{add-one}
-use Rattle.tables.proofs.Rows.{bad_here, bad-later, bad_none}
+use Rattle.tables.proofs.Rows.{bad_here, bad_later, bad_none}
 use borrow.Author.Count.{falls}
 use borrow.Author.Rules.{rules, zero≤}
 use Rattle.tables.proofs.form.first_bad.Statement.{statement}
@@ -49,7 +49,7 @@ loop-again : tie.Need-loop-preserved invariant-loop decreases-loop
 loop-again c =
     let l = c.before.before.before.before.before.before.loop in
     let h = all_have c.before.before.before.before.before in
-    (rw add-one h.0, l.invariant.1 ∙ bad-later _ _ _ l.i h.0 h.1 h.2 (row_told c.before ∙ not-false _ c.if1.false))
+    (rw add-one h.0, l.invariant.1 ∙ bad_later _ _ _ l.i h.0 h.1 h.2 (row_told c.before ∙ not-false _ c.if1.false))
 
 returns-2 : tie.Need-returns-2 invariant-loop decreases-loop
 returns-2 c =

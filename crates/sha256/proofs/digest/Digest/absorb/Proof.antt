@@ -8,7 +8,7 @@ use lib.Seq.{length-take-le, paste}
 use Rattle.compression.specs.Compression.{chain}
 use Rattle.words.specs.Sha256.{sha256}
 use Rattle.lists.specs.PartsLaws.{tail-part}
-use Rattle.sha256.proofs.Holding.{held-short, held_long}
+use Rattle.sha256.proofs.Holding.{held_short, held_long}
 use borrow.Author.Rules.{rules}
 use Rattle.sha256.proofs.digest.Digest.absorb.Statement.{statement}
 use Rattle.sha256.proofs.digest.Digest.absorb.Tie as tie
@@ -36,7 +36,7 @@ returns c =
     let a = c.before.before.before.before.before.before.before.args in
     let rest : ℕ = a.self.len % 64 in
     λ t d.
-    held-short sha256 d a.part.now rest (omega (arith, d.few, d.cut, d.long)) (omega (arith, c.before.if1.true)) c.filled.ensures
+    held_short sha256 d a.part.now rest (omega (arith, d.few, d.cut, d.long)) (omega (arith, c.before.if1.true)) c.filled.ensures
 
 slice-aggregate-filled : tie.Need-slice-aggregate-filled
 slice-aggregate-filled c = sym (length-take-le _ c.before.before.before.before.before.before.before.args.part.now c.before.if1.false)
