@@ -10,7 +10,6 @@ use lib.ListN.{length, take, drop, get_or, set, replicate, length-append, length
 use lib.Seq.{take-suc-set, take-suc, drop-set-lt, drop-drop, length-take-le, take_at, drop_at}
 use Rattle.lists.specs.Lists.{Below}
 use Rattle.lists.specs.ListsLaws.{below_take}
-use Rattle.lists.specs.PartsLaws.{copied}
 use Rattle.bits.specs.Bits.{bits_in, bits_of, packed}
 use Rattle.bits.specs.FieldLaws.{length_bits_in, bits_mod, bits_split, bits_join, bits_zero}
 use Rattle.bits.specs.ByteLaws.{length_bits_of, bits_of_append, packed_is}
@@ -144,11 +143,10 @@ run_written pen acc src out part room long small e =
     }
 
 -- where the pen holds nothing, the part is the run itself
-pub run_aligned : (held acc : ℕ) (src dst part : List ℕ) → held ≡ 0 → length dst ≡ length src → part ≡ take (length src) src ++ drop (length src) dst
+pub run_aligned : (held acc : ℕ) (src part : List ℕ) → held ≡ 0 → part ≡ src
     → bits_of part ++ bits_in held acc ≡ bits_in held acc ++ bits_of src
 unfolding bits_in
-run_aligned held acc src dst part none same e =
-    let p : part ≡ src = copied src dst part same e in
+run_aligned held acc src part none p =
     ap (λ (k : ℕ). bits_of part ++ bits_in k acc) none
     ∙ append-nil (bits_of part)
     ∙ ap bits_of p

@@ -11,7 +11,7 @@ use lib.ListN.{length, take, drop, get_or, set, length-drop, take-append-drop}
 use lib.Seq.{drop-drop, get_or-drop, take-suc-set, length-take-le}
 use Rattle.lists.specs.Lists.{Below}
 use Rattle.lists.specs.ListsLaws.{below_take, below_drop}
-use Rattle.lists.specs.PartsLaws.{part-within, copied}
+use Rattle.lists.specs.PartsLaws.{part-within}
 use Rattle.bits.specs.Bits.{bits_in, bits_of, num_of, octets}
 use Rattle.bits.specs.FieldLaws.{num_append, num_field, num_part}
 use Rattle.bits.specs.ByteLaws.{length_bits_of, bits_of_append, drop_bits_of, octets_bits_of}
@@ -128,8 +128,7 @@ shifted_more s dst i off j {a} {b} h room within ea eb ha hb before =
 -- where the bit is a byte's first, the bytes are those of the slice
 pub whole_bytes : (s dst part : List ℕ) (at : ℕ) → Below 256 s → at % 8 ≡ 0 → at + 8 * length dst ≤ 8 * length s
     → (let i : ℕ = at / 8 in
-    let src : List ℕ = take (i + length dst - i) (drop i s) in
-    part ≡ take (length src) src ++ drop (length src) dst)
+    part ≡ take (i + length dst - i) (drop i s))
     → part ≡ octets (length dst) (drop at (bits_of s))
 whole_bytes s dst part at bytes even fits e =
     let i : ℕ = at / 8 in
@@ -140,6 +139,6 @@ whole_bytes s dst part at bytes even fits e =
     let spot : 8 * i ≡ at = omega arith in
     let b : drop at (bits_of s) ≡ bits_of src ++ bits_of (drop n t) =
     ap (λ (k : ℕ). drop k (bits_of s)) (sym spot) ∙ drop_bits_of i s ∙ ap bits_of (sym (take-append-drop n t)) ∙ bits_of_append src (drop n t) in
-    copied src dst part (sym long) e
+    e
     ∙ sym (octets_bits_of src (bits_of (drop n t)) (below_take 256 n t (below_drop 256 i s bytes)))
     ∙ ap₂ octets long (sym b)

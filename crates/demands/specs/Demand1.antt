@@ -20,8 +20,8 @@ use Rattle.trees.specs.Rules.{max_height, max_bytes, salted, text_fits}
 use Rattle.trees.specs.Places.{Place}
 use Rattle.trees.specs.Join.{Joint, ok, clash, join}
 use Rattle.trees.specs.Rows.{Entry, node, tip, Tag, Step, fault, next, Verdict, faulty, left, tag_of, head_of, highest_of, hashed, step_of, onward, judged, verdict, rows, number, kids, below, run_of, grow, grown}
-use Rattle.trees.specs.StackLaws.{hashed_tags}
-use Rattle.trees.specs.StackSound.{tags_below, tags_kids}
+use Rattle.trees.proofs.StackLaws.{hashed_tags}
+use Rattle.trees.proofs.StackSound.{tags_below, tags_kids}
 use Rattle.outcomes.specs.Refusals.{accepted, too_long, cut_short, other_edition, no_nodes, not_one_tree, bad_padding, no_room, bad_list, roots_differ, join_too_large, bad_table, children_missing, too_high, salt_broken, not_composed, clashing}
 use Rattle.tables.specs.PruningList.{first_fault, pruned}
 use Rattle.tables.specs.Tables.{Table, row_fits, first_bad, columns_fit, sum, Columns}

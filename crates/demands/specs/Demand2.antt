@@ -6,7 +6,7 @@ use Rattle.std.proofs.Math.Option.{some}
 use Rattle.lists.specs.Lists.{Below}
 use Rattle.trees.specs.Nodes.{Node, Run, inner, leaf, label, blocks}
 use Rattle.trees.specs.Places.{Place, node_at, stays, cut}
-use Rattle.trees.specs.PruneLaws.{cut_stays, cut_named}
+use Rattle.trees.proofs.PruneLaws.{cut_stays, cut_named}
 use Rattle.trees.specs.Rows.{rows, number}
 use Rattle.trees.specs.Rules.{WellFormed}
 use Rattle.outcomes.specs.Refusals.{accepted}

@@ -12,7 +12,7 @@ use Rattle.trees.specs.Places.{Le, tells}
 use Rattle.trees.specs.Join.{Collision}
 use Rattle.trees.specs.Ends.{bare, Got, Agree, WasShown}
 use Rattle.trees.specs.Ends as Ends
-use Rattle.trees.specs.Demand3 as Trees
+use Rattle.trees.proofs.Demand3 as Trees
 use Rattle.trees.specs.Rows.{rows, number}
 use Rattle.codec.specs.Writing.{slip_of}
 use Rattle.sha256.specs.Sha256 as Sha256

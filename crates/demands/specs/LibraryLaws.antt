@@ -13,10 +13,10 @@ use Rattle.lists.specs.ListsLaws.{same_refl, same_true, none-some, some_inj}
 use Rattle.trees.specs.Nodes.{Node, size, label, blocks}
 use Rattle.trees.specs.Rules.{max_nodes, max_bytes, label_bytes}
 use Rattle.trees.specs.Places.{Place}
-use Rattle.trees.specs.OrderLaws.{le_label}
+use Rattle.trees.proofs.OrderLaws.{le_label}
 use Rattle.trees.specs.Join.{Joint, ok, clash, join, Alike}
-use Rattle.trees.specs.JoinLaws.{join_ok}
-use Rattle.trees.specs.Demand3.{bare_well_formed}
+use Rattle.trees.proofs.JoinLaws.{join_ok}
+use Rattle.trees.proofs.Demand3.{bare_well_formed}
 use Rattle.trees.specs.Ends.{Reply, passed, took, misfit, shown, is_misfit, is_shown, held, settle, bare, Rooted, reply_to, reply, step, run, Got}
 use Rattle.trees.specs.Ends as Ends
 use Rattle.trees.specs.Rows.{tip, rows, number}

@@ -11,11 +11,11 @@ use Rattle.lists.specs.TestsLaws.{or_left, or_right}
 use Rattle.lists.specs.ListsLaws.{same_refl, same_true, same_comm}
 use Rattle.trees.specs.Nodes.{Node, size, label}
 use Rattle.trees.specs.Rules.{max_nodes, max_bytes}
-use Rattle.trees.specs.RulesLaws.{On, join_all, join_well_formed}
+use Rattle.trees.proofs.RulesLaws.{On, join_all, join_well_formed}
 use Rattle.trees.specs.Places.{Place}
 use Rattle.trees.specs.Join.{Joint, ok, clash, join, Alike, Clash, FirstClash}
-use Rattle.trees.specs.FirstClash.{join_unclashed, clash_first}
-use Rattle.trees.specs.JoinAlgebra.{join_idem, join_comm}
+use Rattle.trees.proofs.FirstClash.{join_unclashed, clash_first}
+use Rattle.trees.proofs.JoinAlgebra.{join_idem, join_comm}
 use Rattle.trees.specs.Rows.{rows, number}
 use Rattle.outcomes.specs.Refusals.{accepted, roots_differ, join_too_large}
 use Rattle.codec.specs.Writing.{slip_of}

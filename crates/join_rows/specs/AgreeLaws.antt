@@ -5,7 +5,7 @@ use Rattle.lists.specs.Lists.{same, backwards}
 use Rattle.lists.specs.ListsLaws.{same_true, same_false, same_refl, backwards-inj, length-backwards}
 use Rattle.lists.specs.TestsLaws.{and_left, and_right, and_both}
 use Rattle.trees.specs.Nodes.{Head, prelabel}
-use Rattle.trees.specs.NodesLaws.{prelabel_inj}
+use Rattle.trees.proofs.NodesLaws.{prelabel_inj}
 use Rattle.columns.specs.Columns.{same_head, heads_agree}
 
 -- heads that agree are equal, and back

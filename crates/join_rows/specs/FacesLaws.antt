@@ -6,7 +6,7 @@ use Rattle.trees.specs.Nodes.{Node, Run, inner, leaf, nil, cons, size, sizes, la
 use Rattle.trees.specs.Rows.{Entry, node, rows, rows_in}
 use Rattle.trees.specs.RowsLaws.{length_rows, length_rows_in}
 use Rattle.trees.specs.RowLabels.{labels_of, labels_in}
-use Rattle.trees.specs.StackLaws.{length_heads}
+use Rattle.trees.proofs.StackLaws.{length_heads}
 use Rattle.join_rows.specs.Faces.{Face, of_inner, entry_of_face, head_of_face, faces, faces_in}
 
 module _ (H : List ℕ → List ℕ) where

@@ -7,10 +7,10 @@ use Rattle.std.proofs.lemmas.Bool.{eqb-false}
 use Rattle.lists.specs.Lists.{same, backwards, At}
 use Rattle.lists.specs.ListsLaws.{same_true}
 use Rattle.trees.specs.Nodes.{Node, Run, inner, leaf, count, size, sizes, Head, prelabel, heads}
-use Rattle.trees.specs.NodesLaws.{prelabel_inj}
-use Rattle.trees.specs.StackLaws.{length_heads}
+use Rattle.trees.proofs.NodesLaws.{prelabel_inj}
+use Rattle.trees.proofs.StackLaws.{length_heads}
 use Rattle.trees.specs.Join.{join, join_run}
-use Rattle.trees.specs.JoinLaws.{join_run_good}
+use Rattle.trees.proofs.JoinLaws.{join_run_good}
 use Rattle.columns.specs.declared.meet.Meeting.{Meeting}
 use Rattle.columns.specs.declared.meet.Meeting.TheVariants.{Clash, Take, Both}
 use Rattle.join_rows.specs.declared.walk.Walked.{Walked}

@@ -4,8 +4,8 @@ use Rattle.std.proofs.Common.{sym, ap, ◌∙◌, subst, subst₂, arith, eqb-tr
 use Rattle.lists.specs.ListsLaws.{append-cancel, nil-cons, at_front, at_back}
 use Rattle.lists.specs.TestsLaws.{or_cases}
 use Rattle.trees.specs.Nodes.{Node, Run, nil, cons, count, sizes, heads}
-use Rattle.trees.specs.NodesLaws.{some_size}
-use Rattle.trees.specs.StackLaws.{length_heads}
+use Rattle.trees.proofs.NodesLaws.{some_size}
+use Rattle.trees.proofs.StackLaws.{length_heads}
 use Rattle.trees.specs.Join.{join, join_run}
 use Rattle.columns.specs.Columns.{none_left}
 use Rattle.join_rows.specs.declared.walk.Walked.{Walked}

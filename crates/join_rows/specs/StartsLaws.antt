@@ -5,7 +5,7 @@ use Rattle.std.proofs.Common.{◌∙◌, subst, append_assoc, zero-add, add-zero
 use Prim.Native.Nat.{ℕ, suc, ◌+◌, ◌<◌}
 use native.Mathlib.Omega.{arith}
 use Rattle.trees.specs.Nodes.{Node, Run, inner, leaf, nil, cons, type_of, count, size, sizes, Head, label, heads}
-use Rattle.trees.specs.StackLaws.{length_heads}
+use Rattle.trees.proofs.StackLaws.{length_heads}
 use Rattle.lists.specs.Lists.{backwards, At}
 use Rattle.lists.specs.ListsLaws.{at_front, at_back}
 use Rattle.join_rows.specs.Faces.{Face, of_inner, no_face, count_of_face, head_of_face, faces, faces_in, root}

@@ -3,7 +3,7 @@ use Rattle.std.specs.Prelude.{◌≡◌, refl, Bool, true, false, cond, List, �
 use Rattle.std.proofs.Common.{sym, ap, ◌∙◌, subst, arith, length-append, length-drop, take-append-drop, get_or-take, get_or-drop, take-take, take-add, drop-drop, get_or-append-add, length-take-le, ltb-true, ltb-false}
 use Rattle.std.proofs.Math.ListN.{get_or-append}
 use Rattle.trees.specs.Nodes.{Node, size}
-use Rattle.trees.specs.NodesLaws.{some_size}
+use Rattle.trees.proofs.NodesLaws.{some_size}
 use Rattle.trees.specs.Rules.{label_bytes}
 use Rattle.tables.specs.Tables.{sum}
 use Rattle.tables.specs.TablesLaws.{sum_append, sum_part}

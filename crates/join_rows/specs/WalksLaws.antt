@@ -2,9 +2,9 @@
 use Rattle.std.specs.Prelude.{◌≡◌, refl, List, [], ◌∷◌, ◌++◌, map, ℕ, ◌+◌, ◌-◌, ◌≤◌, length, drop}
 use Rattle.std.proofs.Common.{sym, ap, ◌∙◌, subst, append_assoc, arith, length-append}
 use Rattle.trees.specs.Nodes.{Node, Run, inner, count, size, sizes, heads}
-use Rattle.trees.specs.OrderLaws.{le_heads}
+use Rattle.trees.proofs.OrderLaws.{le_heads}
 use Rattle.trees.specs.Join.{Joint, ok, clash, JointRun, ok_run, clash_at, wrap, join, join_run}
-use Rattle.trees.specs.JoinLaws.{GoodRun}
+use Rattle.trees.proofs.JoinLaws.{GoodRun}
 use Rattle.trees.specs.Rows.{number_in}
 use Rattle.tables.specs.Tables.{sum}
 use Rattle.join_rows.specs.declared.walk.Walked.{Walked}

@@ -10,8 +10,8 @@ use lib.Seq.{take_all, length-take-le}
 use Rattle.trees.specs.Nodes.{Node, size, label}
 use Rattle.trees.specs.Rules.{max_nodes}
 use Rattle.trees.specs.Join.{Joint, ok, clash, join, Alike}
-use Rattle.trees.specs.JoinLaws.{join_ok}
-use Rattle.trees.specs.OrderLaws.{le_label}
+use Rattle.trees.proofs.JoinLaws.{join_ok}
+use Rattle.trees.proofs.OrderLaws.{le_label}
 use Rattle.tables.specs.Records.{TreeTable}
 use Rattle.outcomes.specs.Refusals.{join_too_large}
 use Rattle.sha256.specs.Sha256 as Sha256

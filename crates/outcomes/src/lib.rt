@@ -1,5 +1,6 @@
 // The refusal numbers of document 01; specs/ also has how an outcome is chosen by tests in order.
 #![tactic(auto)]
+
 ghost use Rattle.std.specs.Prelude.{◌≡◌, [], ◌∷◌};
 ghost use Rattle.outcomes.specs.Refusals.{accepted, too_long, cut_short, other_edition, no_nodes, children_missing, too_high, salt_broken, not_composed, not_one_tree, bad_padding, no_room, bad_list, roots_differ, clashing, join_too_large, bad_table, title_long, not_utf8, outside_repertoire, loose_mark};
 

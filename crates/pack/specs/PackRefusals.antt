@@ -6,7 +6,7 @@ use Rattle.lists.specs.Lists.{all}
 use Rattle.trees.specs.Rules.{max_bytes}
 use Rattle.trees.specs.Rows.{Entry, formed, Verdict, faulty, left, verdict}
 use Rattle.trees.specs.Refused.{Broken, Scattered}
-use Rattle.trees.specs.RefusedLaws.{breaks_number, refused_broken, broken_refused, left_scattered, scattered_left}
+use Rattle.trees.proofs.RefusedLaws.{breaks_number, refused_broken, broken_refused, left_scattered, scattered_left}
 use Rattle.outcomes.specs.Refusals.{accepted, not_one_tree, bad_table, children_missing, not_composed}
 use Rattle.tables.specs.Tables.{Table, table_fits}
 use Rattle.codec.specs.Writing.{slip_of}

@@ -8,12 +8,12 @@ use Rattle.std.proofs.lemmas.List.{length-map}
 use Rattle.lists.specs.TestsLaws.{and_left, and_right}
 use Rattle.lists.specs.Lists.{all}
 use Rattle.trees.specs.Nodes.{Node, type_of, size, label, blocks}
-use Rattle.trees.specs.NodesLaws.{some_size}
+use Rattle.trees.proofs.NodesLaws.{some_size}
 use Rattle.trees.specs.Rules.{max_type, max_value, max_children, label_bytes, max_nodes, max_bytes, WellFormed}
 use Rattle.trees.specs.Rows.{Entry, node, tip, formed, rows, Tag, Verdict, faulty, left, verdict}
 use Rattle.trees.specs.RowsLaws.{length_rows, rows_inj}
-use Rattle.trees.specs.StackLaws.{complete_tree, rows_formed}
-use Rattle.trees.specs.StackSound.{sound_one, built_well_formed}
+use Rattle.trees.proofs.StackLaws.{complete_tree, rows_formed}
+use Rattle.trees.proofs.StackSound.{sound_one, built_well_formed}
 use Rattle.outcomes.specs.Refusals.{accepted, too_long, no_room, bad_table}
 use Rattle.tables.specs.Tables.{Table, entry_of, entries, row_fits, first_bad, columns_fit, sum, Formed}
 use Rattle.tables.specs.TablesLaws.{columns_told, length_entries}

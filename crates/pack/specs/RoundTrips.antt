@@ -11,7 +11,7 @@ use Rattle.trees.specs.Nodes.{Node, label, blocks}
 use Rattle.trees.specs.Rules.{max_nodes}
 use Rattle.trees.specs.Rows.{Entry, rows}
 use Rattle.trees.specs.RowsLaws.{length_rows}
-use Rattle.trees.specs.StackLaws.{rows_formed}
+use Rattle.trees.proofs.StackLaws.{rows_formed}
 use Rattle.outcomes.specs.Refusals.{accepted}
 use Rattle.tables.specs.Tables.{Table, Formed}
 use Rattle.codec.specs.Writing.{slip_of}

@@ -11,9 +11,9 @@ use Rattle.lists.specs.Lists.{Below, same}
 use Rattle.lists.specs.ListsLaws.{same_refl, same_true}
 use Rattle.trees.specs.Nodes.{Node, Run, inner, label, blocks}
 use Rattle.trees.specs.Rules.{label_bytes, WellFormed}
-use Rattle.trees.specs.RulesLaws.{le_all, le_size, le_well_formed}
+use Rattle.trees.proofs.RulesLaws.{le_all, le_size, le_well_formed}
 use Rattle.trees.specs.Places.{Place, node_at, stays, Le, cut, EqualBut}
-use Rattle.trees.specs.PruneLaws.{cut_le, cut_label, cut_none, cut_agree, stays_above, equal_but_cut}
+use Rattle.trees.proofs.PruneLaws.{cut_le, cut_label, cut_none, cut_agree, stays_above, equal_but_cut}
 use Rattle.trees.specs.Rows.{Entry, node, tip, rows, number}
 use Rattle.trees.specs.NumbersLaws.{number_inj}
 use Rattle.outcomes.specs.Refusals.{accepted, no_room, bad_list}

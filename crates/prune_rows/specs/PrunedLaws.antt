@@ -2,7 +2,7 @@
 use Rattle.std.specs.Prelude.{ℕ, zero, suc, ◌+◌, ◌≤◌, ◌<◌, ◌≡◌, refl, List, [], map, length, take, drop, get_or}
 use Rattle.std.proofs.Common.{sym, ap, ◌∙◌, append-nil, zero-add, arith, get_or-take, length-take-le}
 use Rattle.trees.specs.Nodes.{Node, size}
-use Rattle.trees.specs.NodesLaws.{some_size}
+use Rattle.trees.proofs.NodesLaws.{some_size}
 use Rattle.trees.specs.Places.{cut}
 use Rattle.trees.specs.Rows.{Entry, node, tip, rows, number, pruned_rows}
 use Rattle.trees.specs.RowsLaws.{length_rows}
@@ -21,7 +21,7 @@ use Rattle.prune_rows.specs.MarksLaws.{walk_marks, cut_off_named}
 use Rattle.prune_rows.specs.PickedLaws.{picked_take, picked_agree, length_label_rows, label_rows_at}
 use Rattle.prune_rows.specs.PickedTrees.{picked_rows}
 use Rattle.prune_rows.specs.TableLaws.{entries_counts, entries_at}
-use Rattle.tables.specs.ListRule.{named_inner}
+use Rattle.tables.proofs.ListRule.{named_inner}
 
 -- a row looks at its label only where it has children
 same_row : (m t c : ℕ) (v x y : List ℕ) → (0 < c → x ≡ y) → row_by m (entry_of t c v) x ≡ row_by m (entry_of t c v) y

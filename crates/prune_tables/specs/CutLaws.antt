@@ -3,12 +3,12 @@ use Rattle.std.specs.Prelude.{ℕ, ◌≤◌, ◌<◌, List, ◌≡◌, length, 
 use Rattle.std.proofs.Math.Path.{refl, sym}
 use Rattle.std.proofs.Common.{◌∙◌, subst, arith, lt-ltb, le-ltb, length-take-le}
 use Rattle.trees.specs.Nodes.{Node, label}
-use Rattle.trees.specs.PruneLaws.{cut_label}
+use Rattle.trees.proofs.PruneLaws.{cut_label}
 use Rattle.trees.specs.Rows.{number, pruned_rows}
 use Rattle.outcomes.specs.Refusals.{bad_list}
 use Rattle.tables.specs.PruningList.{named, first_fault, pruned}
 use Rattle.tables.specs.Records.{TreeTable, Holds}
-use Rattle.tables.specs.ListRule.{fault_within}
+use Rattle.tables.proofs.ListRule.{fault_within}
 use Rattle.prune_rows.specs.Clauses.{Written, PruneGives}
 use Rattle.prune_rows.specs.PrunedLaws.{rows_pruned}
 use Rattle.answers.specs.declared.Answer.{Answer}

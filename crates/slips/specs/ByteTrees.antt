@@ -5,7 +5,7 @@ use Rattle.lists.specs.Lists.{Below}
 use Rattle.trees.specs.Nodes.{Node, Run, inner, leaf, nil, cons, count, size}
 use Rattle.trees.specs.Rules.{max_nodes, max_bytes, count_fits, All, AllIn, NodeRules, LeafRules, WellFormed}
 use Rattle.trees.specs.Rows.{Entry, node, rows, rows_in}
-use Rattle.trees.specs.StackLaws.{length_heads}
+use Rattle.trees.proofs.StackLaws.{length_heads}
 use Rattle.outcomes.specs.Refusals.{accepted}
 use Rattle.codec.specs.Writing.{slip_of}
 use Rattle.codec.specs.Proper.{AllProper}

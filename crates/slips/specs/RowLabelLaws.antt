@@ -10,7 +10,7 @@ use Rattle.trees.specs.Rules.{max_height, label_bytes, All, AllIn, NodeRules, Le
 use Rattle.trees.specs.Rows.{Entry, node, rows, rows_in, Tag, Step, tag_of}
 use Rattle.trees.specs.RowsLaws.{nodes_of}
 use Rattle.trees.specs.RowLabels.{labels_of, labels_in}
-use Rattle.trees.specs.StackLaws.{node_step}
+use Rattle.trees.proofs.StackLaws.{node_step}
 use Rattle.engine.specs.Engine.{last_text, top_of, tops, RowsLabelled}
 
 -- the node pushed last is on the top

@@ -11,7 +11,7 @@ use Rattle.trees.specs.Nodes.{Node, type_of}
 use Rattle.trees.specs.Rules.{max_bytes}
 use Rattle.trees.specs.Rows.{formed, Tag, tag_of, Verdict, faulty, left, verdict}
 use Rattle.trees.specs.Refused.{Broken, Scattered}
-use Rattle.trees.specs.RefusedLaws.{breaks_number, refused_broken, broken_refused, left_scattered, scattered_left}
+use Rattle.trees.proofs.RefusedLaws.{breaks_number, refused_broken, broken_refused, left_scattered, scattered_left}
 use Rattle.tables.specs.Limits.{edition, header_bits}
 use Rattle.outcomes.specs.Refusals.{accepted, cut_short, no_nodes, not_one_tree, bad_padding, children_missing, not_composed}
 use Rattle.codec.specs.Reading.{Reading}

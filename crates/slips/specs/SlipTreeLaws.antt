@@ -10,8 +10,8 @@ use Rattle.trees.specs.Nodes.{Node, type_of, label, blocks}
 use Rattle.trees.specs.Rules.{WellFormed}
 use Rattle.trees.specs.Rows.{rows, tag_of, left, verdict}
 use Rattle.trees.specs.RowsLaws.{grown_tree}
-use Rattle.trees.specs.StackLaws.{complete_tree}
-use Rattle.trees.specs.StackSound.{sound_one, built_well_formed}
+use Rattle.trees.proofs.StackLaws.{complete_tree}
+use Rattle.trees.proofs.StackSound.{sound_one, built_well_formed}
 use Rattle.outcomes.specs.Refusals.{accepted}
 use Rattle.codec.specs.Reading.{Reading}
 use Rattle.tables.specs.Limits.{header_bits}

@@ -17,12 +17,12 @@ use Rattle.bits.specs.FieldLaws.{bits_num, bits_zero, num_field}
 use Rattle.bits.specs.ByteLaws.{length_bits_of, below_bits_of}
 use Rattle.lists.specs.TestsLaws.{and_left, and_right, and_both}
 use Rattle.trees.specs.Nodes.{Node, leaf, type_of, size, label, blocks}
-use Rattle.trees.specs.NodesLaws.{some_size}
+use Rattle.trees.proofs.NodesLaws.{some_size}
 use Rattle.trees.specs.Rules.{max_nodes, max_bytes, WellFormed}
 use Rattle.trees.specs.Rows.{Entry, formed, rows, Tag, tag_of, Verdict, faulty, left, verdict}
 use Rattle.trees.specs.RowsLaws.{length_rows, rows_inj}
-use Rattle.trees.specs.StackLaws.{complete_tree}
-use Rattle.trees.specs.StackSound.{Built, sound_one, built_well_formed}
+use Rattle.trees.proofs.StackLaws.{complete_tree}
+use Rattle.trees.proofs.StackSound.{Built, sound_one, built_well_formed}
 use Rattle.outcomes.specs.Refusals.{accepted}
 use Rattle.codec.specs.Writing.{slip_of}
 use Rattle.codec.specs.Reading.{Reading, read_all}

@@ -8,4 +8,3 @@ pub mod PruningList
 pub mod Records
 -- Laws:
 pub mod TablesLaws
-pub mod ListRule

@@ -1,5 +1,4 @@
 -- `bits::pen::finish` meets its contract: the field of zero bits fills the last byte. Assumes nothing.
-use Prim.Native.Nat.{◌-◌}
 use native.Mathlib.Omega.{arith}
 use Rattle.lists.specs.Lists.{Below}
 use Rattle.bits.proofs.Strokes.{finished}

@@ -15,8 +15,7 @@ returns-then-held-eq0 c =
     let long : length (take n (drop at c.args.out.now)) ≡ length c.args.src.now =
     length-take-le n (drop at c.args.out.now) (omega (arith, length-drop at c.args.out.now, c.requires.fits)) ∙ omega arith in
     run_written c.args.pen c.args.pen.acc c.args.src.now c.args.out.now k.new.self c.requires (k.auto.self ∙ long) c.requires.ready.small
-    (run_aligned c.args.pen.held c.args.pen.acc c.args.src.now (take n (drop at c.args.out.now)) k.new.self
-    c.if-held-eq0.true long k.ensures.after)
+    (run_aligned c.args.pen.held c.args.pen.acc c.args.src.now k.new.self c.if-held-eq0.true k.ensures.after)
 
 pub returns-else-held-eq0 : goal.returns-else-held-eq0
 returns-else-held-eq0 c =

@@ -1,5 +1,5 @@
 use mathlib.Core.Path.{refl, sym}
-use Prim.Native.Nat.{◌+◌, ◌-◌, ◌<◌}
+use Prim.Native.Nat.{◌+◌, ◌<◌}
 use native.Mathlib.Omega.{arith}
 use lib.ListN.{length, length-set}
 use Rattle.bits.proofs.Windows.{octets_none, shifted_more}

@@ -1,7 +1,7 @@
 use lib.ListN.{length}
 use native.Mathlib.Omega.{arith}
 use Rattle.trees.specs.Join.{join}
-use Rattle.trees.specs.NodesLaws.{some_size}
+use Rattle.trees.proofs.NodesLaws.{some_size}
 use Rattle.join_rows.specs.TwoLaws.{first_rows, first_low, all_rows, two_ready}
 use Rattle.join_rows.specs.PlanLaws.{two_said, clash_planned, ok_planned}
 use borrow.Author.Rules.{rules}

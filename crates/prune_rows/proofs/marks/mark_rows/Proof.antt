@@ -7,7 +7,7 @@ use lib.ListN.{length, length-set}
 use Rattle.tables.specs.PruningList.{named}
 use Rattle.prune_rows.specs.Marks.{mark_by, owed_by}
 use Rattle.prune_rows.specs.Steps.{Before}
-use Rattle.tables.specs.ListRule.{clean_rule}
+use Rattle.tables.proofs.ListRule.{clean_rule}
 use Rattle.prune_rows.proofs.Naming.{before_all}
 use Rattle.prune_rows.proofs.Marking.{Walked, walked_none, walked_more, walked_all, owed_low}
 use borrow.Author.Rules.{rules}

@@ -4,11 +4,11 @@ use Rattle.std.proofs.Common.{sym, ap, ap₂, ◌∙◌}
 use Rattle.lists.specs.Lists.{same}
 use Rattle.lists.specs.ListsLaws.{same_refl, same_comm, same_true, cons_tail, nil-cons}
 use Rattle.trees.specs.Nodes.{Node, Run, inner, leaf, nil, cons, prelabel, heads}
-use Rattle.trees.specs.NodesLaws.{prelabel_inj}
+use Rattle.trees.proofs.NodesLaws.{prelabel_inj}
 use Rattle.trees.specs.Places.{Le}
-use Rattle.trees.specs.OrderLaws.{le_trans, le_antisym}
+use Rattle.trees.proofs.OrderLaws.{le_trans, le_antisym}
 use Rattle.trees.specs.Join.{ok, clash, ok_run, wrap, both, join, join_run, Alike, Joined}
-use Rattle.trees.specs.JoinLaws.{first_alike, join_ok, join_below, below_alike}
+use Rattle.trees.proofs.JoinLaws.{first_alike, join_ok, join_below, below_alike}
 
 module _ (H : List ℕ → List ℕ) where
   -- a tree joined with itself is itself

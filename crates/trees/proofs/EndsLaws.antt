@@ -7,13 +7,14 @@ use Rattle.std.proofs.Math.Option.{Option, none, some}
 use Rattle.lists.specs.TestsLaws.{or_left, or_right, or_cases}
 use Rattle.trees.specs.Nodes.{Node}
 use Rattle.trees.specs.Places.{Place, Fact, tells, Le}
-use Rattle.trees.specs.OrderLaws.{le_refl, le_trans, le_type, le_label}
+use Rattle.trees.proofs.OrderLaws.{le_refl, le_trans, le_type, le_label}
 use Rattle.trees.specs.Join.{Joint, ok, clash, join}
 use Rattle.trees.specs.Ends.{Reply, took, misfit, held, settle, reply_to, is_misfit, is_shown, Rooted, reply, step, run, ever, Got, Told}
-use Rattle.trees.specs.Replies.{Means, held_up, held_upper, held_least, held_unclashed, held_exact, reply_means}
+use Rattle.trees.proofs.Replies.{Means, held_up, held_upper, held_least, held_unclashed, held_exact, reply_means}
 
 -- an arrival of the list that reads as t: so ends with the same set of arrivals got the same trees
 pub got_member : {A : Type 0} (read : A → Option Node) (t : Node) (a : A) → read a ≡ some t → (xs : List A) → Memᴰ a xs → Got read xs t
+got_member read t a e [] m = elim m [ ]
 got_member read t a e (x ∷ xs) (Memᴰ.head q) = inl (ap read (sym q) ∙ e)
 got_member read t a e (x ∷ xs) (Memᴰ.tail m) = inr (got_member read t a e xs m)
 

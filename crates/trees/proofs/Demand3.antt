@@ -7,13 +7,13 @@ use Rattle.lists.specs.ListsLaws.{none-some}
 use Rattle.trees.specs.Nodes.{Node, label}
 use Rattle.trees.specs.Rules.{label_bytes, WellFormed}
 use Rattle.trees.specs.Places.{Place, Fact, opened, tells, Le}
-use Rattle.trees.specs.OrderLaws.{le_label, le_antisym, le_tells}
+use Rattle.trees.proofs.OrderLaws.{le_label, le_antisym, le_tells}
 use Rattle.trees.specs.Join.{Alike, Differ}
-use Rattle.trees.specs.JoinLaws.{join_ok}
-use Rattle.trees.specs.RulesLaws.{dangling_rules, join_well_formed}
+use Rattle.trees.proofs.JoinLaws.{join_ok}
+use Rattle.trees.proofs.RulesLaws.{dangling_rules, join_well_formed}
 use Rattle.trees.specs.Ends.{Reply, passed, took, misfit, shown, is_shown, bare, Rooted, reply, Got, Told, copy, answered14, did_not_fit, Exactly, WasShown, Agree}
-use Rattle.trees.specs.Replies.{Means, reply_means}
-use Rattle.trees.specs.EndsLaws.{Replied, ever_at, run_keeps, run_up, rooted_run, run_upper, run_least, run_unclashed, run_exact}
+use Rattle.trees.proofs.Replies.{Means, reply_means}
+use Rattle.trees.proofs.EndsLaws.{Replied, ever_at, run_keeps, run_up, rooted_run, run_upper, run_least, run_unclashed, run_exact}
 
 -- "with nothing disclosed"
 pub bare_tells : (H : List ℕ → List ℕ) (l : List ℕ) (p : Place) (x : Fact) → tells H (bare l) p ≡ some x → ⊥

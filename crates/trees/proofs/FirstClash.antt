@@ -7,7 +7,7 @@ use Rattle.trees.specs.Nodes.{Node, Run, inner, leaf, nil, cons, prelabel, heads
 use Rattle.trees.specs.Places.{Place}
 use Rattle.trees.specs.PlacesLaws.{leaf_shut, opened_inj, opened_at, at_opened}
 use Rattle.trees.specs.Join.{Joint, ok, clash, JointRun, ok_run, clash_at, wrap, both, join, join_run, Alike, Clash, ClashIn, Before, NotAfter, FirstClash}
-use Rattle.trees.specs.JoinLaws.{join_clash}
+use Rattle.trees.proofs.JoinLaws.{join_clash}
 
 under_first : (p q : Place) → NotAfter p q → NotAfter (0 ∷ p) (0 ∷ q)
 under_first p q (inl e) = inl (ap (λ (x : Place). 0 ∷ x) e)

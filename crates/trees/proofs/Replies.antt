@@ -5,9 +5,9 @@ use Rattle.std.proofs.Math.Option.{Option, none, some}
 use Rattle.lists.specs.ListsLaws.{none-some, some_inj}
 use Rattle.trees.specs.Nodes.{Node}
 use Rattle.trees.specs.Places.{Place, Fact, tells, Le}
-use Rattle.trees.specs.OrderLaws.{le_refl}
+use Rattle.trees.proofs.OrderLaws.{le_refl}
 use Rattle.trees.specs.Join.{Joint, ok, clash, join, Joined, Collision}
-use Rattle.trees.specs.JoinLaws.{Good, join_good, no_collision}
+use Rattle.trees.proofs.JoinLaws.{Good, join_good, no_collision}
 use Rattle.trees.specs.Ends.{Reply, passed, took, misfit, shown, is_misfit, is_shown, held, settle, Rooted, reply_to, reply, Told}
 
 module _ (H : List ℕ → List ℕ) where

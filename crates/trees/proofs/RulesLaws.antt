@@ -4,12 +4,12 @@ use Rattle.std.proofs.Common.{sym, ◌∙◌, subst, subst₂, arith, eq-eqb}
 use Rattle.lists.specs.Lists.{same}
 use Rattle.lists.specs.ListsLaws.{same_true}
 use Rattle.trees.specs.Nodes.{Node, Run, inner, leaf, nil, cons, Head, prelabel, label, heads, height, highest, size, sizes}
-use Rattle.trees.specs.NodesLaws.{prelabel_inj}
+use Rattle.trees.proofs.NodesLaws.{prelabel_inj}
 use Rattle.trees.specs.Rules.{All, AllIn, label_bytes, NodeRules, LeafRules, WellFormed}
 use Rattle.trees.specs.Places.{Le, LeIn}
-use Rattle.trees.specs.OrderLaws.{le_heads, le_type}
+use Rattle.trees.proofs.OrderLaws.{le_heads, le_type}
 use Rattle.trees.specs.Join.{Joint, ok, clash, JointRun, ok_run, clash_at, wrap, both, join, join_run, Alike}
-use Rattle.trees.specs.JoinLaws.{GoodRun, join_run_good, join_ok}
+use Rattle.trees.proofs.JoinLaws.{GoodRun, join_run_good, join_ok}
 
 -- where there is a joined tree, it has the property
 abbrev pub On : (Node → Type 0) → Joint → Type 0

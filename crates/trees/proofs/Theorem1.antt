@@ -5,10 +5,10 @@ use Rattle.std.proofs.Math.Option.{some}
 use Rattle.lists.specs.Lists.{same}
 use Rattle.lists.specs.ListsLaws.{same_true, cons_tail, nil-cons}
 use Rattle.trees.specs.Nodes.{Node, Run, inner, leaf, nil, cons, prelabel, label, heads}
-use Rattle.trees.specs.NodesLaws.{prelabel_inj}
+use Rattle.trees.proofs.NodesLaws.{prelabel_inj}
 use Rattle.trees.specs.Places.{Place, node_at, child_at, opened, tells, tells_in, Le, LeIn, Shared, SharedIn}
 use Rattle.trees.specs.Join.{Joint, ok, clash, join, Alike, Collision, Joined}
-use Rattle.trees.specs.JoinLaws.{first_alike, root_collision, join_ok, join_clash}
+use Rattle.trees.proofs.JoinLaws.{first_alike, root_collision, join_ok, join_clash}
 
 module _ (H : List ℕ → List ℕ) where
   -- how the tree y stands to the tree x

@@ -12,7 +12,7 @@ use Rattle.outcomes.specs.Refusals.{children_missing, not_composed}
 use Rattle.trees.specs.Rules.{max_height, salted, count_fits, text_fits, Fit, WellFormed}
 use Rattle.trees.specs.Rows.{Entry, node, tip, formed, rows, kids, below, grow, grown, Tag, head_of, highest_of, Step, fault, next, Verdict, faulty, left, onward, tag_of, hashed, step_of, judged, verdict}
 use Rattle.trees.specs.RowsLaws.{rows_inj}
-use Rattle.trees.specs.StackLaws.{hashed_tags, length_heads}
+use Rattle.trees.proofs.StackLaws.{hashed_tags, length_heads}
 use Rattle.trees.specs.Forest.{rows_all, rows_all_append, last_run, count_last, node_rows, blocks_all, blocks_all_append, node_blocks, AllFit, fit_append, fit_take, fit_drop, fit_run}
 use Rattle.trees.specs.Refused.{Breaks, missing, high, unsalted, wrong, Broken}
 

@@ -8,10 +8,10 @@ use Rattle.outcomes.specs.Refusals.{children_missing, not_composed}
 use Rattle.trees.specs.Rules.{max_height}
 use Rattle.trees.specs.Rows.{Entry, node, formed, rows, kids, below, Tag, head_of, highest_of, Step, fault, faulty, left, onward, tag_of, hashed, step_of, judged, verdict, grown}
 use Rattle.trees.specs.RowsLaws.{length_rows}
-use Rattle.trees.specs.StackLaws.{hashed_tags, complete}
+use Rattle.trees.proofs.StackLaws.{hashed_tags, complete}
 use Rattle.trees.specs.Forest.{rows_all, last_run, blocks_all, AllFit}
 use Rattle.trees.specs.Refused.{Breaks, missing, high, unsalted, wrong, Broken, Scattered}
-use Rattle.trees.specs.StackSound.{tags_below, tags_kids, Stands, verdict_sound}
+use Rattle.trees.proofs.StackSound.{tags_below, tags_kids, Stands, verdict_sound}
 
 module _ (H : List ℕ → List ℕ) (composed : List ℕ → Bool) where
   -- a rule that an entry can break is one of 5 to 8

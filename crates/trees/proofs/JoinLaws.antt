@@ -5,10 +5,10 @@ use Rattle.std.proofs.Math.Option.{some}
 use Rattle.lists.specs.Lists.{same}
 use Rattle.lists.specs.ListsLaws.{same_true, same_false, cons_head, cons_tail, nil-cons}
 use Rattle.trees.specs.Nodes.{Node, Run, inner, leaf, nil, cons, Head, prelabel, label, heads}
-use Rattle.trees.specs.NodesLaws.{prelabel_inj}
+use Rattle.trees.proofs.NodesLaws.{prelabel_inj}
 use Rattle.trees.specs.Places.{Place, Fact, opened, tells, tells_in, Le, LeIn, Shared, SharedIn}
 use Rattle.trees.specs.PlacesLaws.{opened_inj}
-use Rattle.trees.specs.OrderLaws.{le_in_refl, le_heads, le_label, le_type, le_tells}
+use Rattle.trees.proofs.OrderLaws.{le_in_refl, le_heads, le_label, le_type, le_tells}
 use Rattle.trees.specs.Join.{Joint, ok, clash, JointRun, ok_run, clash_at, wrap, both, join, join_run, Alike, Collision, Joined, JoinedRun}
 
 module _ (H : List ℕ → List ℕ) where

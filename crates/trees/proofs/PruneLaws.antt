@@ -10,7 +10,7 @@ use Rattle.lists.specs.ListsLaws.{same_true, none-some, some_inj}
 use Rattle.trees.specs.Nodes.{Node, Run, inner, leaf, nil, cons, prelabel, label, heads}
 use Rattle.trees.specs.Places.{Place, node_at, child_at, is_dangling, stays, Le, LeIn, cut, cut_in, EqualBut, EqualButIn}
 use Rattle.trees.specs.PlacesLaws.{at_root, leaf_inner}
-use Rattle.trees.specs.OrderLaws.{le_label}
+use Rattle.trees.proofs.OrderLaws.{le_label}
 
 module _ (H : List ℕ → List ℕ) where
   -- an internal node, cut or kept

@@ -4,7 +4,7 @@ use Rattle.std.proofs.Common.{sym, ap, ◌∙◌, subst, subst₂}
 use Rattle.std.proofs.Math.Option.{some}
 use Rattle.lists.specs.ListsLaws.{none-some, some_inj, cons_head, cons_tail, nil-cons}
 use Rattle.trees.specs.Nodes.{Node, Run, inner, leaf, nil, cons, type_of, Head, prelabel, label, heads}
-use Rattle.trees.specs.NodesLaws.{prelabel_inj}
+use Rattle.trees.proofs.NodesLaws.{prelabel_inj}
 use Rattle.trees.specs.Places.{Place, node_at, child_at, Fact, opened, leaf_tells, tells, tells_in, Le, LeIn}
 use Rattle.trees.specs.PlacesLaws.{opened_inj, leaf_shut}
 
