@@ -45,7 +45,7 @@ fn copy_values(
         let length = cell(lengths, row);
         let from = offsets[row];
         let to = from + length;
-        bytes::copy(&values[from..to], &mut out[used..]);
+        lists::copy(&values[from..to], &mut out[used..]);
         used += length;
         k += 1;
     }

@@ -56,7 +56,7 @@ fn settled(s: Stack, kinds: &[u16], work: &[u8]) -> Judged
     let mut label = [0u8; Slip::LABEL_BYTES];
     if one {
         let end = HEAD + Slip::LABEL_BYTES;
-        bytes::copy(&work[HEAD..end], &mut label);
+        lists::copy(&work[HEAD..end], &mut label);
     }
     Judged {
         number: Refusal::ACCEPTED,

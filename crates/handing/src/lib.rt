@@ -75,6 +75,6 @@ pub fn hand_out(
     copy_cells(types, types_out);
     copy_cells(counts, counts_out);
     copy_cells(lengths, lengths_out);
-    bytes::copy(values, values_out);
+    lists::copy(values, values_out);
     a
 }

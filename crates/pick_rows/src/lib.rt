@@ -39,7 +39,7 @@ fn put(
     types2[at] = t;
     counts2[at] = c;
     lengths2[at] = l;
-    bytes::copy(part, &mut values2[from..]);
+    lists::copy(part, &mut values2[from..]);
     Pruned { rows, used }
 }
 

@@ -16,6 +16,6 @@ pub fn put(kind: usize, text: &[u8], at: usize, work: &mut [u8]) -> usize
     work[at + 2] = (size / 256) as u8;
     work[at + 3] = (size % 256) as u8;
     let from = at + HEAD;
-    bytes::copy(text, &mut work[from..]);
+    lists::copy(text, &mut work[from..]);
     from + size
 }

@@ -102,7 +102,7 @@ fn hash(
     let blocks = s.blocks + blocks_of(p.long);
     let label = p.label;
     let at = Slip::LABEL_BYTES * i;
-    bytes::copy(&label, &mut labels[at..]);
+    lists::copy(&label, &mut labels[at..]);
     push(
         Stack { depth, top, blocks },
         0,
