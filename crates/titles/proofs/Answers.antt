@@ -5,7 +5,7 @@ use mathlib.Core.List.{List, ◌++◌}
 use Prim.Native.Nat.{ℕ, ◌≤◌, ◌<◌}
 use lib.ListN.{length, take, drop}
 use lib.Dec.{ltb}
-use lib.Seq.{take_all, length-take-le}
+use lib.Seq.{take_all, take-length, length-take-le}
 use native.Mathlib.Omega.{arith}
 use borrow.Author.Tests.{lt-ltb, le-ltb, ltb-true, ltb-false}
 use Rattle.lists.specs.TestsLaws.{either, refuted}
@@ -78,10 +78,10 @@ module _ (title out buffer : List ℕ) (r : Composed) (scanned : Scanned title r
     pub met-taken :
         (left : List ℕ)
         → r.length ≤ length out
-        → left ≡ take r.length buffer ++ drop r.length out
+        → left ≡ take (length (take r.length buffer)) (take r.length buffer) ++ drop (length (take r.length buffer)) out
         → Leaves (compose_of title out) r left
     met-taken left room e =
         met title out left r _
         (taken title (text title) out (le-ltb max_title (length title) under) all refl (rw size at room))
         whole
-        (e ∙ rw (scanned.front zero, size))
+        (e ∙ rw (take-length (take r.length buffer), length-take-le r.length buffer in_buffer, scanned.front zero, size))

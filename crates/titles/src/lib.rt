@@ -37,7 +37,7 @@ pub fn compose(title: &[u8], out: &mut [u8]) -> Composed
     if out.len() < n {
         return scan::refused(Refusal::NO_ROOM, 0);
     }
-    out[..n].copy_from_slice(&text[..n]);
+    lists::copy(&text[..n], out);
     answer
 }
 

@@ -1,9 +1,5 @@
 -- `compose` meets its contract: each return is one of the outcome's tests.
-use mathlib.Core.Path.{◌∙◌, ap}
-use mathlib.Core.List.{List, ◌++◌}
-use Prim.Native.Nat.{ℕ}
-use lib.ListN.{drop}
-use lib.Seq.{length-take-le}
+use native.Mathlib.Omega.{arith}
 use Rattle.titles.proofs.Answers.{met_long, met_refused, met_short, met-taken, in_buffer, part_long}
 use Rattle.titles.proofs.compose.Goals as goal
 
@@ -24,16 +20,16 @@ pub slice_bounds-text-end : goal.slice_bounds-text-end
 slice_bounds-text-end c =
     in_buffer _ c.args.out.now _ _ c.scan-answer.ensures c.if-title-gt-MAX_BYTES.false c.if-answer-ne-ACCEPTED.false
 
-pub slice_bounds-copy_from_slice-end-3 : goal.slice_bounds-copy_from_slice-end-3
-slice_bounds-copy_from_slice-end-3 c =
+pub slice_bounds-copy-end : goal.slice_bounds-copy-end
+slice_bounds-copy-end c =
     part_long _ c.args.out.now _ _ c.scan-answer.ensures c.if-title-gt-MAX_BYTES.false c.if-answer-ne-ACCEPTED.false
 
-pub copy_from_slice-requires : goal.copy_from_slice-requires
-copy_from_slice-requires c =
-    length-take-le c.scan-answer.result.length c.args.out.now c.if-out-n.false
-    ∙ part_long _ c.args.out.now _ _ c.scan-answer.ensures c.if-title-gt-MAX_BYTES.false c.if-answer-ne-ACCEPTED.false
+pub copy-requires : goal.copy-requires
+copy-requires c =
+    let long = part_long _ c.args.out.now _ _ c.scan-answer.ensures c.if-title-gt-MAX_BYTES.false c.if-answer-ne-ACCEPTED.false in
+    omega (arith, long, c.if-out-n.false)
 
 pub returns : goal.returns
 returns c =
     met-taken _ _ _ _ c.scan-answer.ensures c.if-title-gt-MAX_BYTES.false c.if-answer-ne-ACCEPTED.false _ c.if-out-n.false
-    (ap (λ (p : List ℕ). p ++ drop c.scan-answer.result.length c.args.out.now) c.copy_from_slice.ensures.after)
+    c.copy.ensures.1
