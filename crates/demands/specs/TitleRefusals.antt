@@ -6,7 +6,7 @@ use Rattle.outcomes.specs.Refusals.{accepted, no_room, title_long, not_utf8, out
 use Rattle.outcomes.specs.Outcome.{Output}
 use Rattle.titles.specs.Compose.{compose_of}
 use Rattle.titles.specs.Goes.{Wrong, broken, foreign, loose, FirstBad, Goes, long, wrong, short, taken}
-use Rattle.titles.specs.GoesLaws.{compose_goes}
+use Rattle.titles.proofs.GoesLaws.{compose_goes}
 use Rattle.titles.specs.declared.composed.Composed.{Composed}
 
 -- told of a character

@@ -1,5 +1,6 @@
 // Which refusal an entry meets on the stack: 5, 6 and 7 at an internal node, 8 at a leaf.
 #![tactic(auto)]
+
 ghost use Rattle.std.specs.Prelude.{◌≡◌, List, map, ℕ, ◌<◌, length};
 ghost use Rattle.trees.specs.Rules.{salted};
 ghost use Rattle.trees.specs.Rows.{Tag, head_of, step_of, node, tip};

@@ -9,18 +9,8 @@ pub mod Nfc
 pub mod Vector
 pub mod Utf8Vectors
 pub mod NfcVectors
--- Theorems:
-pub mod DecodingLaws
-pub mod NfcTheorem
--- The laws behind them:
+-- Laws of these that stand by themselves; proofs/ has those that the must-fail edits make false, and what rests on them:
 pub mod Cons
 pub mod BoundsLaws
 pub mod FrontsLaws
-pub mod SequencesLaws
 pub mod EncodingsLaws
-pub mod PairsLaws
-pub mod MarksLaws
-pub mod Composition
-pub mod DecompositionLaws
-pub mod OrderLaws
-pub mod CompositionLaws

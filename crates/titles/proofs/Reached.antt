@@ -12,8 +12,8 @@ use Rattle.nfc.specs.Repertoire.{plain}
 use Rattle.nfc.specs.Joining.{joined, bad, clusters, outs, composed}
 use Rattle.titles.specs.Compose.{text, acceptance, answer_from}
 use Rattle.nfc.specs.BoundsLaws.{at_least, at_most, width_2}
-use Rattle.nfc.specs.DecodingLaws.{decode_end}
-use Rattle.nfc.specs.PairsLaws.{joint}
+use Rattle.nfc.proofs.DecodingLaws.{decode_end}
+use Rattle.nfc.proofs.PairsLaws.{joint}
 use Rattle.titles.specs.ClustersLaws.{from, bad_at, one_at, two_at, next_fits, mark_fits, mark_width}
 
 pub record Reached (s : List ℕ) (at n : ℕ) (room : List ℕ) : Type 0 where

@@ -7,10 +7,10 @@ use Rattle.nfc.specs.Utf8.{ill, width, character, front, decode}
 use Rattle.nfc.specs.Repertoire.{plain, all_plain}
 use Rattle.nfc.specs.Joining.{joined, Cluster, bad, one, two, clusters}
 use Rattle.nfc.specs.BoundsLaws.{at_least, at_most, width_2, encode_2}
-use Rattle.nfc.specs.DecodingLaws.{decode_next, decode_end, front_fits}
-use Rattle.nfc.specs.SequencesLaws.{front_starts}
-use Rattle.nfc.specs.PairsLaws.{joint}
-use Rattle.nfc.specs.MarksLaws.{mark_within, plain_small}
+use Rattle.nfc.proofs.DecodingLaws.{decode_next, decode_end, front_fits}
+use Rattle.nfc.proofs.SequencesLaws.{front_starts}
+use Rattle.nfc.proofs.PairsLaws.{joint}
+use Rattle.nfc.proofs.MarksLaws.{mark_within, plain_small}
 
 -- the clusters of a title from byte `at` on
 abbrev pub from : List ℕ → ℕ → List Cluster

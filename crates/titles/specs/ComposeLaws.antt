@@ -5,7 +5,7 @@ use Rattle.lists.specs.TestsLaws.{either, clash}
 use Rattle.outcomes.specs.Refusals.{accepted, no_room, title_long}
 use Rattle.nfc.specs.Utf8.{ill, width, encode, encodes, decode}
 use Rattle.nfc.specs.Repertoire.{is_mark}
-use Rattle.nfc.specs.DecodingLaws.{length_encode}
+use Rattle.nfc.proofs.DecodingLaws.{length_encode}
 use Rattle.titles.specs.declared.composed.Composed.{Composed}
 use Rattle.nfc.specs.Joining.{joined, Cluster, bad, one, two, clusters, outs, none_bad, accepts, composed}
 use Rattle.outcomes.specs.Outcome.{still}

@@ -7,7 +7,6 @@ pub mod Scan
 pub mod Cases
 -- Theorems:
 pub mod TitleTheorems
-pub mod GoesLaws
 -- The laws behind them:
 pub mod ClustersLaws
 pub mod ComposeLaws

@@ -13,12 +13,12 @@ use Rattle.nfc.specs.Joining.{joined, accepts, composed}
 use Rattle.outcomes.specs.Outcome.{Output, Leaves}
 use Rattle.titles.specs.Compose.{text, accepted_with, compose_of, composed_text, max_title}
 use Rattle.nfc.specs.BoundsLaws.{at_least, at_most, width_2}
-use Rattle.nfc.specs.DecodingLaws.{decode_encodes, encodes_decode, length_encode}
-use Rattle.nfc.specs.PairsLaws.{joint}
-use Rattle.nfc.specs.MarksLaws.{mark_within, plain_small}
+use Rattle.nfc.proofs.DecodingLaws.{decode_encodes, encodes_decode, length_encode}
+use Rattle.nfc.proofs.PairsLaws.{joint}
+use Rattle.nfc.proofs.MarksLaws.{mark_within, plain_small}
 use Rattle.titles.specs.ComposeLaws.{long, refused, short, taken, judged_accepts, refused_length}
-use Rattle.nfc.specs.Composition.{Composes, done, stay, join, letter_plain, joins_mark, accepts_composes}
-use Rattle.nfc.specs.NfcTheorem.{accepts_nfc, nfc_composed, equal_composed, composed_plain, plain_accepts, plain_composed}
+use Rattle.nfc.proofs.Composition.{Composes, done, stay, join, letter_plain, joins_mark, accepts_composes}
+use Rattle.nfc.proofs.NfcTheorem.{accepts_nfc, nfc_composed, equal_composed, composed_plain, plain_accepts, plain_composed}
 
 -- an outcome with number 0 is an acceptance of all characters, with room
 pub record AcceptedTitle (title out : List ℕ) : Type 0 where

@@ -1,5 +1,6 @@
 // Titles composed to NFC within the repertoire of document 01, and the test for text values in slips.
 #![tactic(auto)]
+
 mod composed;
 mod scan;
 
@@ -36,7 +37,7 @@ pub fn compose(title: &[u8], out: &mut [u8]) -> Composed
     if out.len() < n {
         return scan::refused(Refusal::NO_ROOM, 0);
     }
-    bytes::copy(&text[..n], out);
+    lists::copy(&text[..n], out);
     answer
 }
 

@@ -1,5 +1,6 @@
 // UTF-8: the character at a place, a character's width, a character put into a buffer.
 #![tactic(auto)]
+
 ghost use Rattle.std.specs.Prelude.{◌≡◌, ◌+◌, ◌≤◌, ◌<◌, ◌++◌, length, take, drop, get_or};
 ghost use Rattle.nfc.specs.Utf8.{low, high, two_bytes, three_bytes, four_bytes, front, encode};
 ghost use Rattle.utf8.specs.Clauses.{Tested, At};
@@ -15,6 +16,7 @@ fn byte(s: &[u8], i: usize) -> u32
 }
 
 // The bounds of the second byte after the first byte `a`.
+#[tactic(auto, unfolding(nfc::specs::Utf8::low))]
 fn low_of(a: u32) -> u32
     ensures { (result ≡ low a) × (0x80 ≤ result) }
 {
@@ -25,6 +27,7 @@ fn low_of(a: u32) -> u32
     }
 }
 
+#[tactic(auto, unfolding(nfc::specs::Utf8::high))]
 fn high_of(a: u32) -> u32
     ensures { (result ≡ high a) × (result ≤ 0xBF) }
 {
