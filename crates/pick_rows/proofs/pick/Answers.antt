@@ -1,0 +1,59 @@
+use Prim.Native.Nat.{ℕ, ◌+◌, ◌-◌, ◌≤◌, ◌<◌}
+use mathlib.Core.Path.{refl, ap, ◌∙◌}
+use native.Mathlib.Omega.{arith}
+use lib.ListN.{length, get_or, length-take, length-drop}
+use Rattle.pick_rows.proofs.Picking.{value_part, label_part, value_in, value_room, going_none, going_puts, going_more, going_all}
+use Rattle.pick_rows.proofs.pick.Goals as goal
+
+pub loop-i-init : goal.loop-i-init
+loop-i-init c = (omega arith, refl, refl, refl, refl, going_none c.requires.pick_asks _ _ _ _)
+
+pub overflow_add-end : goal.overflow_add-end
+overflow_add-end c =
+    let marked : c.loop-i.i < length c.args.marks.now = omega (arith, c.requires.pick_room.1, c.loop-i-test.true) in
+    let value_there : c.loop-i.at + get_or c.args.lengths.now c.loop-i.i 0 ≤ length c.args.values.now = value_in c.requires.pick_asks c.loop-i.invariant.5 c.loop-i-test.true marked in
+    omega (arith, value_there, c.cell.ensures.0, c.well_formed)
+
+pub slice_bounds-turn-end : goal.slice_bounds-turn-end
+slice_bounds-turn-end c =
+    let marked : c.loop-i.i < length c.args.marks.now = omega (arith, c.requires.pick_room.1, c.loop-i-test.true) in
+    let value_there : c.loop-i.at + get_or c.args.lengths.now c.loop-i.i 0 ≤ length c.args.values.now = value_in c.requires.pick_asks c.loop-i.invariant.5 c.loop-i-test.true marked in
+    omega (arith, value_there, c.cell.ensures.0)
+
+pub turn-p-requires : goal.turn-p-requires
+turn-p-requires c =
+    let marked : c.loop-i.i < length c.args.marks.now = omega (arith, c.requires.pick_room.1, c.loop-i-test.true) in
+    let p = c.requires in
+    let a = c.args in
+    let l = c.loop-i in
+    let r = p.pick_room.0 in
+    let here : l.i < length a.types.now = c.loop-i-test.true in
+    let some = marked in (
+      p.pick_asks.cuts l.i here,
+      simp (length-take, length-drop) (omega (arith, here, p.pick_asks.labels_room)),
+      going_puts p.pick_asks l.invariant.5 here some _ (value_part a.values.now l.at c.cell.result _ c.cell.ensures.0)
+          (omega (arith, r.types_room, l.invariant.1)) (omega (arith, r.counts_room, l.invariant.2)) (omega (arith, r.lengths_room, l.invariant.3))
+          (omega (arith, r.values_room, l.invariant.4)),
+      value_room p.pick_asks l.invariant.5 here some (length l.values2) (omega (arith, r.values_room, l.invariant.4)),
+    )
+
+pub loop-i-preserved : goal.loop-i-preserved
+loop-i-preserved c =
+    let marked : c.loop-i.i < length c.args.marks.now = omega (arith, c.requires.pick_room.1, c.loop-i-test.true) in
+    let a = c.args in
+    let l = c.loop-i in
+    let turn = c.turn-p in
+    let cell = c.cell in
+    let here : l.i < length a.types.now = c.loop-i-test.true in (
+      omega (arith, here),
+      turn.auto.types2 ∙ l.invariant.1,
+      turn.auto.counts2 ∙ l.invariant.2,
+      turn.auto.lengths2 ∙ l.invariant.3,
+      turn.auto.values2 ∙ l.invariant.4,
+      going_more c.requires.pick_asks l.invariant.5 here marked _ _
+          (value_part a.values.now l.at cell.result _ cell.ensures.0) (label_part a.labels.now l.i)
+          (ap (λ (k : ℕ). l.at + k) cell.ensures.0) turn.ensures,
+    )
+
+pub returns : goal.returns
+returns c = going_all c.requires.pick_asks c.loop-i-test.false c.loop-i.invariant.0 c.loop-i.invariant.5
