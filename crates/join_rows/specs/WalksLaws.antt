@@ -10,7 +10,7 @@ use Rattle.tables.specs.Tables.{sum}
 use Rattle.join_rows.specs.declared.walk.Walked.{Walked}
 use Rattle.lists.specs.Lists.{upto, At}
 use Rattle.lists.specs.ListsLaws.{at_names, names_append}
-use Rattle.join_rows.specs.Faces.{Face, of_inner, no_face, faces, faces_in, root}
+use Rattle.join_rows.specs.Faces.{Face, of_inner, no_face, faces, faces_in}
 use Rattle.join_rows.specs.FacesLaws.{length_faces}
 use Rattle.join_rows.specs.Runs.{snoc, sizes_snoc, number_last, number_front, both_last, Within, faces_snoc, join_snoc, join_within}
 use Rattle.join_rows.specs.JoinWeight.{Light, join_light}

@@ -1,5 +1,6 @@
 // The table of the rows that the marks pick.
 #![tactic(auto)]
+
 ghost use Rattle.std.specs.Prelude.{◌≡◌, ◌+◌, ◌≤◌, ◌<◌, length};
 ghost use Rattle.trees.specs.Rules.{label_bytes};
 ghost use Rattle.tables.specs.Tables.{entry_of};
