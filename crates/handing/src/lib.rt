@@ -1,5 +1,6 @@
 // A table handed out: its parts copied to the buffers, where they have room.
 #![tactic(auto)]
+
 ghost use Rattle.std.specs.Prelude.{◌≡◌, ◌≤◌, length};
 ghost use Rattle.tables.specs.Tables.{table};
 ghost use Rattle.outcomes.specs.Outcome.{over, Leaves};

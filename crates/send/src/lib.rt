@@ -1,5 +1,6 @@
 // A table's slip handed out with its blocks and its root label: where pack, prune and join end.
 #![tactic(auto)]
+
 pub mod blocks;
 
 ghost use Rattle.tables.specs.Tables.{entries, FormedIn};
