@@ -1,5 +1,5 @@
 -- A message hashed part by part: what the digest holds behind some of its digits.
-use Rattle.std.proofs.Common.{◌≡◌, ℕ, ◌+◌, ◌-◌, ◌<◌, ◌≤◌, min, Bool, true, false, ◌&&◌, ltb, List, [], ◌++◌, length, take, drop, sym, refl, ap, ◌∙◌, append_assoc, append-nil, arith, length-append, drop_of_length-le, length-take, take_all, drop-drop, ltb-false, ltb-true}
+use Rattle.std.proofs.Common.{◌≡◌, ℕ, ◌+◌, ◌<◌, ◌≤◌, min, Bool, true, false, ◌&&◌, ltb, List, [], ◌++◌, length, take, drop, sym, refl, ap, ◌∙◌, append_assoc, append-nil, arith, length-append, drop_of_length-le, length-take, take_all, drop-drop, ltb-false, ltb-true}
 use Rattle.sha256.specs.Running.{Holds, Grows}
 use Rattle.sha256.specs.declared.digest.Digest.{Digest}
 use Rattle.digits.specs.Digits.{is_hex, bytes_of}
