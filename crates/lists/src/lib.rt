@@ -1,5 +1,6 @@
 // What the crates say of lists: specs/ has definitions and laws. The one function copies bytes.
 #![tactic(auto)]
+
 ghost use Rattle.std.specs.Prelude.{◌≡◌, ◌≤◌, ◌++◌, length, take, drop};
 
 // Copies a text to the front of an area; what stands behind it there stays.
