@@ -1,5 +1,6 @@
 // The pruning of a table: the list's fault, or the pruned tree's slip.
 #![tactic(auto)]
+
 ghost use Rattle.std.specs.Prelude.{◌≤◌, length};
 ghost use Rattle.tables.specs.Areas.{small_bytes, small_nodes};
 ghost use Rattle.prune_rows.specs.Clauses.{PickRoom};
