@@ -1,5 +1,6 @@
 // The stack of waiting nodes: in one area their pieces end to end, in three columns their types, heights and label lengths.
 #![tactic(auto)]
+
 ghost use Rattle.std.specs.Prelude.{◌≡◌, List, ◌^◌, ◌<◌};
 ghost use Rattle.trees.specs.Nodes.{blocks_of};
 ghost use Rattle.trees.specs.Rows.{Tag, node};
@@ -13,7 +14,7 @@ use tables::form;
 use tables::limits::Slip;
 
 // How many wait, where the next piece goes, and the blocks compressed so far.
-#[derive(Drop)]
+#[derive(Clone, Copy)]
 pub struct Stack {
     pub depth: usize,
     pub top: usize,
@@ -56,7 +57,7 @@ fn push(
 }
 
 // What the last `count` nodes give their parent: its height, the length of its prelabel and its label.
-#[derive(Drop)]
+#[derive(Clone, Copy)]
 struct Parent {
     height: usize,
     long: usize,
