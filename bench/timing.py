@@ -13,10 +13,10 @@ def build(name, crate, twin):
     if platform.machine() != "x86_64":
         sys.exit(f"bench/{name}: our programs are x86-64 and run under an emulator here, so a time would say nothing")
     os.makedirs("target/bench", exist_ok=True)
-    subprocess.run(["tools/proved", crate], stdout=subprocess.DEVNULL, check=True)
+    proved = subprocess.run(["tools/proved", crate], stdout=subprocess.PIPE, check=True, text=True).stdout.strip()
     rust = f"target/bench/{twin}_rust"
     subprocess.run(["rustc", "--edition", "2021", "-O", "-o", rust, f"bench/{twin}.rs"], check=True)
-    return f"target/bin/{crate}", rust
+    return proved, rust
 
 
 def used():
