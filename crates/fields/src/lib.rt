@@ -10,7 +10,7 @@
 #![tactic(auto)]
 ghost use Rattle.std.specs.Prelude.{◌≤◌, ◌<◌};
 
-use bytes::scan;
+use parts::scan;
 pub use digits::{OVER, number_of};
 use text_lines::input;
 

@@ -33,6 +33,21 @@ pub fn more(source: &mut impl Read, area: &mut [u8], n: usize) -> Filled
     }
 }
 
+// Reads until the file ends, a read fails or the area is full, and answers how many bytes came.
+pub fn full(source: &mut impl Read, area: &mut [u8]) -> usize
+    ensures { result ≤ length area.new }
+{
+    let mut n = 0;
+    while n < area.len() {
+        let f = more(source, area, n);
+        if f.held == n {
+            break;
+        }
+        n = f.held;
+    }
+    n
+}
+
 // Reads until the file ends or the area is full.
 pub fn all(source: &mut impl Read, area: &mut [u8]) -> Got {
     let mut n = 0;

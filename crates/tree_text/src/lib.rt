@@ -9,6 +9,7 @@ ghost use Rattle.trees.specs.Rules.{max_bytes, max_nodes};
 
 use answers::Answer;
 use outcomes::Refusal;
+use pages::Complaints;
 use row_lines::drawing;
 use slips::open::Opened;
 use slips::{header, open};
@@ -16,7 +17,7 @@ use tables::areas::Full;
 use tables::limits::Slip;
 
 // Draws the tree of an accepted slip on standard output, and answers what the check answers.
-pub fn draw(s: &[u8]) -> Answer
+pub fn draw(rt: &(impl Print + Complaints), s: &[u8]) -> Answer
     ensures { result ≡ check_of Sha256.label composed_text s.now }
 {
     let h = header::header_of(s);
@@ -24,10 +25,10 @@ pub fn draw(s: &[u8]) -> Answer
         return answers::refused(h.number, 0);
     }
     let n = h.count;
-    opened(s, n)
+    opened(rt, s, n)
 }
 
-fn opened(s: &[u8], n: usize) -> Answer
+fn opened(rt: &(impl Print + Complaints), s: &[u8], n: usize) -> Answer
     requires { Counted s.now n max_bytes max_nodes }
     ensures { result ≡ body_of Sha256.label composed_text s.now }
 {
@@ -46,7 +47,7 @@ fn opened(s: &[u8], n: usize) -> Answer
         &mut labels,
     );
     let n = shown(o);
-    drawing::draw(n, &types, &counts, &lengths, &values, &labels);
+    drawing::draw(rt, n, &types, &counts, &lengths, &values, &labels);
     o.answer
 }
 
