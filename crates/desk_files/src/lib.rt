@@ -5,3 +5,4 @@ pub mod command;
 pub mod files;
 pub mod messages;
 pub mod refusals;
+pub mod system;
