@@ -27,7 +27,9 @@ pub fn draw<'a>(
     let mut rows = [0u16; Slip::MAX_NODES];
     places::order(counts, n, &mut rows);
     let mut text = [0u8; pages::BYTES];
-    let to = lines(rt, &mut text, n, &rows, types, counts, lengths, values, labels);
+    let to = lines(
+        rt, &mut text, n, &rows, types, counts, lengths, values, labels,
+    );
     pages::close(rt, &text, to, b"desk");
 }
 

@@ -43,7 +43,13 @@ fn line(
     )
 }
 
-pub fn pair(rt: &impl Print, text: &mut [u8; pages::BYTES], from: usize, kind: usize, value: &[u8]) -> usize {
+pub fn pair(
+    rt: &impl Print,
+    text: &mut [u8; pages::BYTES],
+    from: usize,
+    kind: usize,
+    value: &[u8],
+) -> usize {
     put(rt, text, from, paired(kind, value), kind, value)
 }
 
