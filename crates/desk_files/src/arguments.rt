@@ -35,7 +35,11 @@ pub fn put(rt: &impl Env, i: usize, space: &mut [u8; BYTES]) -> usize
 
 // Puts the entries among the arguments into a list, and answers how many there are; BAD where not all of them are
 // numbers, or there are more, and that is said then.
-pub fn entries(rt: &(impl Print + Env + Complaints), count: usize, list: &mut [u16; fields::CELLS]) -> usize {
+pub fn entries(
+    rt: &(impl Print + Env + Complaints),
+    count: usize,
+    list: &mut [u16; fields::CELLS],
+) -> usize {
     let mut to = 0;
     let mut i = FIRST;
     while i < count {
@@ -48,7 +52,12 @@ pub fn entries(rt: &(impl Print + Env + Complaints), count: usize, list: &mut [u
     to
 }
 
-fn entry(rt: &(impl Print + Env + Complaints), i: usize, list: &mut [u16; fields::CELLS], to: usize) -> usize {
+fn entry(
+    rt: &(impl Print + Env + Complaints),
+    i: usize,
+    list: &mut [u16; fields::CELLS],
+    to: usize,
+) -> usize {
     if ENTRIES <= to {
         messages::say(rt, Said::MANY_ENTRIES, [0, 0, 0], i);
         return fields::BAD;
@@ -58,7 +67,12 @@ fn entry(rt: &(impl Print + Env + Complaints), i: usize, list: &mut [u16; fields
 
 // Puts the number that an argument is into a list behind its first `to`, and answers how many stand there then. Where it
 // is none, that is said, and the answer is BAD.
-pub fn number(rt: &(impl Print + Env + Complaints), i: usize, list: &mut [u16; fields::CELLS], to: usize) -> usize {
+pub fn number(
+    rt: &(impl Print + Env + Complaints),
+    i: usize,
+    list: &mut [u16; fields::CELLS],
+    to: usize,
+) -> usize {
     let mut space = [0u8; BYTES];
     let n = put(rt, i, &mut space);
     let end = fields::one(&space[..n], list, to);

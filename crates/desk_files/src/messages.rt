@@ -44,7 +44,14 @@ impl Said {
 }
 
 // A text by its pattern, in which `$` stands for the name.
-fn put(rt: &impl Print, text: &mut [u8; pages::BYTES], at: usize, k: usize, n: [usize; 3], name: &[u8]) -> usize {
+fn put(
+    rt: &impl Print,
+    text: &mut [u8; pages::BYTES],
+    at: usize,
+    k: usize,
+    n: [usize; 3],
+    name: &[u8],
+) -> usize {
     let lines = b"desk: usage: desk check FILE..
 desk: usage: desk tree FILE
 desk: usage: desk unpack FILE
@@ -106,7 +113,14 @@ pub fn say(rt: &(impl Print + Env + Complaints), line: usize, numbers: [usize; 3
 }
 
 // Says a refusal of the file of argument i, or with FIRST as the head of what it and the file before it are together.
-pub fn refused(rt: &(impl Print + Env + Complaints), head: usize, i: usize, number: usize, place: usize, second: usize) {
+pub fn refused(
+    rt: &(impl Print + Env + Complaints),
+    head: usize,
+    i: usize,
+    number: usize,
+    place: usize,
+    second: usize,
+) {
     let mut text = [0u8; pages::BYTES];
     let at = form(rt, &mut text, 0, head, [0, 0, 0], 2);
     let end = form(rt, &mut text, at, Said::REFUSED, [number, place, 0], i);

@@ -59,6 +59,12 @@ pub fn told(
 : join over 1,023 nodes or 32,768 bytes
 : row @: table not of the form
 ";
-    let to = pages::numbered(rt, text, from, words::line(lines, number), [place, second, 0]);
+    let to = pages::numbered(
+        rt,
+        text,
+        from,
+        words::line(lines, number),
+        [place, second, 0],
+    );
     pages::byte(rt, text, to, b'\n')
 }
