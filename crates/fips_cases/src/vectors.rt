@@ -9,7 +9,7 @@ use std::num::wrapping_add_usize;
 
 // The lines read; the vectors begun, and how many of them agree; the bits of the message that is awaited; whether a digest was made
 // for the vector, and the last one.
-#[derive(Drop)]
+#[derive(Clone, Copy)]
 pub struct Told {
     pub line: usize,
     pub vectors: usize,
