@@ -1,6 +1,7 @@
 // Hashes its input over and over, for bench/hash to time. The input's first two bytes say how many times, the more
 // significant first; the rest is cut into texts of 4,096 bytes.
 #![tactic(auto)]
+
 ghost use Rattle.std.specs.Prelude.{min, ◌≡◌};
 
 use text_lines::reading;
