@@ -48,7 +48,13 @@ fn composed(title: &[u8], text: &mut [u8], from: usize) -> Composed
 }
 
 // The title alone, or its refusal in words.
-fn alone(rt: &(impl Print + Complaints), title: &[u8], line: usize, text: &mut [u8; pages::BYTES], at: usize) -> usize {
+fn alone(
+    rt: &(impl Print + Complaints),
+    title: &[u8],
+    line: usize,
+    text: &mut [u8; pages::BYTES],
+    at: usize,
+) -> usize {
     let to = pages::room(rt, text, at, ROOM);
     if pages::BYTES < to {
         return pages::BROKEN;

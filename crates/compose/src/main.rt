@@ -4,6 +4,7 @@
 // composed bytes alone, and refusals in words on standard error. The line feed is no part of a title, nor is a carriage
 // return before it, nor a byte order mark at the very start of the input.
 #![tactic(auto)]
+
 mod answers;
 mod words;
 

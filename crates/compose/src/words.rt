@@ -5,7 +5,13 @@ use outcomes::Refusal;
 use pages::Complaints;
 use titles::{Composed, Title};
 
-pub fn complain(rt: &(impl Print + Complaints), text: &mut [u8; pages::BYTES], line: usize, title: &[u8], r: Composed) {
+pub fn complain(
+    rt: &(impl Print + Complaints),
+    text: &mut [u8; pages::BYTES],
+    line: usize,
+    title: &[u8],
+    r: Composed,
+) {
     let at = begun(rt, text, line, r.number, r.place);
     let rest = parts::bytes(title, r.place, title.len());
     let end = reason(rt, text, at, kind(r.number), rest);
@@ -13,8 +19,20 @@ pub fn complain(rt: &(impl Print + Complaints), text: &mut [u8; pages::BYTES], l
     pages::complain(rt, text, to);
 }
 
-fn begun(rt: &impl Print, text: &mut [u8; pages::BYTES], line: usize, number: usize, place: usize) -> usize {
-    pages::numbered(rt, text, 0, b"line @: refused @ at @: ", [line, number, place])
+fn begun(
+    rt: &impl Print,
+    text: &mut [u8; pages::BYTES],
+    line: usize,
+    number: usize,
+    place: usize,
+) -> usize {
+    pages::numbered(
+        rt,
+        text,
+        0,
+        b"line @: refused @ at @: ",
+        [line, number, place],
+    )
 }
 
 // Which line of the reasons a number has.
@@ -28,7 +46,13 @@ fn kind(number: usize) -> usize {
 }
 
 // What is wrong with the title, of which the rest begins with the bytes that are refused.
-fn reason(rt: &impl Print, text: &mut [u8; pages::BYTES], at: usize, kind: usize, rest: &[u8]) -> usize {
+fn reason(
+    rt: &impl Print,
+    text: &mut [u8; pages::BYTES],
+    at: usize,
+    kind: usize,
+    rest: &[u8],
+) -> usize {
     let to = if 1 < kind {
         code(rt, text, at, utf8::character(rest, 0))
     } else {
