@@ -1,5 +1,6 @@
 // What `show` prints of a slip, as document 01 has it. The lines go behind the `from` bytes of a page.
 #![tactic(auto)]
+
 ghost use Rattle.slips.specs.Opening.{Counted};
 ghost use Rattle.trees.specs.Rules.{max_bytes, max_nodes};
 
@@ -18,7 +19,13 @@ pub fn slip(rt: &impl Print, text: &mut [u8; pages::BYTES], from: usize, s: &[u8
     opened(rt, text, from, s, n)
 }
 
-fn refused(rt: &impl Print, text: &mut [u8; pages::BYTES], from: usize, number: usize, place: usize) -> usize {
+fn refused(
+    rt: &impl Print,
+    text: &mut [u8; pages::BYTES],
+    from: usize,
+    number: usize,
+    place: usize,
+) -> usize {
     pages::numbered(rt, text, from, b"refused @ @\n", [number, place, 0])
 }
 
@@ -47,7 +54,13 @@ fn opened(rt: &impl Print, text: &mut [u8; pages::BYTES], from: usize, s: &[u8],
     pairs(rt, text, at, parts::cells(&types, 0, n), &lengths, &values)
 }
 
-fn heading(rt: &impl Print, text: &mut [u8; pages::BYTES], from: usize, nodes: usize, a: Answer) -> usize {
+fn heading(
+    rt: &impl Print,
+    text: &mut [u8; pages::BYTES],
+    from: usize,
+    nodes: usize,
+    a: Answer,
+) -> usize {
     let label = a.label;
     let numbers = [Slip::EDITION, nodes, a.blocks];
     pages::form(rt, text, from, b"slip @ @ @\nroot %\n", numbers, &label)
@@ -77,8 +90,21 @@ fn pairs(
     at
 }
 
-fn pair(rt: &impl Print, text: &mut [u8; pages::BYTES], from: usize, kind: usize, value: &[u8]) -> usize {
-    pages::form(rt, text, from, b"pair @ @ %\n", [kind, value.len(), 0], value)
+fn pair(
+    rt: &impl Print,
+    text: &mut [u8; pages::BYTES],
+    from: usize,
+    kind: usize,
+    value: &[u8],
+) -> usize {
+    pages::form(
+        rt,
+        text,
+        from,
+        b"pair @ @ %\n",
+        [kind, value.len(), 0],
+        value,
+    )
 }
 
 fn wide(cell: u16) -> usize {

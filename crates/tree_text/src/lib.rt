@@ -1,5 +1,6 @@
 // The tree of a slip as people draw it.
 #![tactic(auto)]
+
 ghost use Rattle.std.specs.Prelude.{◌≡◌};
 ghost use Rattle.sha256.specs.Sha256 as Sha256;
 ghost use Rattle.titles.specs.Compose.{composed_text};
@@ -46,15 +47,14 @@ fn opened(rt: &(impl Print + Complaints), s: &[u8], n: usize) -> Answer
         &mut values,
         &mut labels,
     );
-    let n = shown(o);
+    let n = shown(&o);
     drawing::draw(rt, n, &types, &counts, &lengths, &values, &labels);
     o.answer
 }
 
 // How many rows are drawn: none of a slip that was refused.
-fn shown(o: Opened) -> usize {
-    let a = o.answer;
-    if a.number != Refusal::ACCEPTED {
+fn shown(o: &Opened) -> usize {
+    if o.answer.number != Refusal::ACCEPTED {
         return 0;
     }
     o.rows
