@@ -1,6 +1,7 @@
 // Runs the tasks on standard input, for bench/check, bench/prune and bench/join to time, and prints one line that
 // depends on every answer and every output (src/tally.rt says of what).
 #![tactic(auto)]
+
 mod calls;
 mod tally;
 mod task;
@@ -22,7 +23,11 @@ fn main(rt: HostRuntime) {
 }
 
 // A proved loop ends: this one where the input does, or after more turns than any run takes.
-fn run(source: &mut impl Read, given: &mut [u8; task::GIVEN], out: &mut [u8]) -> [u64; tally::CELLS] {
+fn run(
+    source: &mut impl Read,
+    given: &mut [u8; task::GIVEN],
+    out: &mut [u8],
+) -> [u64; tally::CELLS] {
     let mut tally = [0u64; tally::CELLS];
     let mut turns = u64::MAX;
     while 0 < turns {

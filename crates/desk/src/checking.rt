@@ -26,7 +26,13 @@ pub fn check(rt: &impl System, count: usize) {
     ended(rt, &text, told.to, told.refused, i - 2);
 }
 
-fn ended(rt: &(impl Print + Env + Complaints), text: &[u8; pages::BYTES], to: usize, refused: usize, files: usize) {
+fn ended(
+    rt: &(impl Print + Env + Complaints),
+    text: &[u8; pages::BYTES],
+    to: usize,
+    refused: usize,
+    files: usize,
+) {
     if messages::close(rt, text, to) {
         if 0 < refused {
             messages::say(rt, Said::SOME_REFUSED, [refused, files, 0], 0);

@@ -72,7 +72,12 @@ fn packed(
     );
 }
 
-fn table_packed(rt: &(impl Print + Env + Complaints), rows: usize, cells: &[u16; reading::CELLS], values: &[u8]) {
+fn table_packed(
+    rt: &(impl Print + Env + Complaints),
+    rows: usize,
+    cells: &[u16; reading::CELLS],
+    values: &[u8],
+) {
     let mut out = [0u8; Slip::MAX_BYTES];
     let types = reading::column(cells, 0, rows);
     let counts = reading::column(cells, 1, rows);

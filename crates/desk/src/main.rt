@@ -1,6 +1,7 @@
 // Slips on the command line: a word, and behind it the files and numbers that it asks for. A file is known by the number
 // of its argument.
 #![tactic(auto)]
+
 mod checking;
 mod finding;
 mod forms;

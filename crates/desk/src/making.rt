@@ -10,7 +10,13 @@ use std::env::Env;
 use tables::limits::Slip;
 
 // Writes out a slip that was made of the file of argument i, or says how it was refused.
-pub fn put(rt: &(impl Print + Env + Complaints), head: usize, i: usize, a: Answer, out: &[u8; Slip::MAX_BYTES]) {
+pub fn put(
+    rt: &(impl Print + Env + Complaints),
+    head: usize,
+    i: usize,
+    a: Answer,
+    out: &[u8; Slip::MAX_BYTES],
+) {
     if a.number != Refusal::ACCEPTED {
         messages::refused(rt, head, i, a.number, a.place, a.second);
         return;

@@ -50,18 +50,37 @@ fn printed(
     found(rt, kind as u16, i, t, parts::cells(counts, 0, n), l, v)
 }
 
-fn whole(rt: &(impl Print + Env + Complaints), types: &[u16], counts: &[u16], lengths: &[u16], values: &[u8]) {
+fn whole(
+    rt: &(impl Print + Env + Complaints),
+    types: &[u16],
+    counts: &[u16],
+    lengths: &[u16],
+    values: &[u8],
+) {
     let mut text = [0u8; pages::BYTES];
     let to = writing::write(rt, &mut text, types, counts, lengths, values);
     messages::close(rt, &text, to);
 }
 
 // Whether the table has the type. The lookup's second record is the same one.
-fn found(rt: &(impl Print + Env + Complaints), kind: u16, i: usize, t: &[u16], c: &[u16], l: &[u16], v: &[u8]) -> bool {
+fn found(
+    rt: &(impl Print + Env + Complaints),
+    kind: u16,
+    i: usize,
+    t: &[u16],
+    c: &[u16],
+    l: &[u16],
+    v: &[u8],
+) -> bool {
     if lookup::holder(kind, t, c, l, v, t, c, l, v) == 0 {
         return false;
     }
-    line(rt, i, kind as usize, lookup::find(kind, t, c, l, v, t, c, l, v));
+    line(
+        rt,
+        i,
+        kind as usize,
+        lookup::find(kind, t, c, l, v, t, c, l, v),
+    );
     true
 }
 

@@ -14,7 +14,14 @@ pub fn head(rt: &impl Print, text: &mut [u8; pages::BYTES], from: usize, a: Answ
 }
 
 // Each with a space behind it.
-pub fn numbers(rt: &impl Print, text: &mut [u8; pages::BYTES], at: usize, a: usize, b: usize, c: usize) -> usize {
+pub fn numbers(
+    rt: &impl Print,
+    text: &mut [u8; pages::BYTES],
+    at: usize,
+    a: usize,
+    b: usize,
+    c: usize,
+) -> usize {
     pages::numbered(rt, text, at, b"@ @ @ ", [a, b, c])
 }
 

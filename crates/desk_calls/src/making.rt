@@ -14,7 +14,16 @@ pub fn made(
 ) -> usize {
     let mut out = [room::FILL; room::MOST];
     let n = fields::number(cells, ends, last(call));
-    told(rt, call, cells, bytes, ends, room::bytes(&mut out, n), text, at)
+    told(
+        rt,
+        call,
+        cells,
+        bytes,
+        ends,
+        room::bytes(&mut out, n),
+        text,
+        at,
+    )
 }
 
 // Which field has the room.
@@ -42,7 +51,13 @@ fn told(
 }
 
 // What stands before the buffer: of a title number, place and length.
-fn begun(rt: &impl Print, call: usize, text: &mut [u8; pages::BYTES], from: usize, a: Answer) -> usize {
+fn begun(
+    rt: &impl Print,
+    call: usize,
+    text: &mut [u8; pages::BYTES],
+    from: usize,
+    a: Answer,
+) -> usize {
     if call == Call::COMPOSE {
         return answer::numbers(rt, text, from, a.number, a.place, a.length);
     }

@@ -36,7 +36,13 @@ fn serve(
 }
 
 // Answers a line; where there is none yet, the page is written out.
-fn served(rt: &impl Print, r: input::Input, area: &[u8; input::ROOM], text: &mut [u8; pages::BYTES], to: usize) -> usize {
+fn served(
+    rt: &impl Print,
+    r: input::Input,
+    area: &[u8; input::ROOM],
+    text: &mut [u8; pages::BYTES],
+    to: usize,
+) -> usize {
     if r.line {
         request::answered(rt, parts::bytes(area, r.from, r.to), text, to)
     } else {

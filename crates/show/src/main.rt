@@ -1,5 +1,6 @@
 // Reads a slip from standard input and prints what it discloses, or its refusal.
 #![tactic(auto)]
+
 use tables::limits::Slip;
 use text_lines::reading;
 use text_lines::reading::Got;

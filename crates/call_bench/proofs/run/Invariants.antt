@@ -1,4 +1,3 @@
-
 use Rattle.call_bench.proofs.run.Given as goal
 
 abbrev pub decreases-loop-turns : goal.decreases-loop-turns
