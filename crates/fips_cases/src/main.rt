@@ -1,5 +1,6 @@
 // Reads files of published SHA-256 vectors from standard input, one behind the other, makes each digest, and says how many agree.
 #![tactic(auto)]
+
 mod messages;
 mod values;
 mod vectors;
