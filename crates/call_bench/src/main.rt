@@ -1,31 +1,37 @@
 // Runs the tasks on standard input, for bench/check, bench/prune and bench/join to time, and prints one line that
 // depends on every answer and every output (src/tally.rt says of what).
 #![tactic(auto)]
+
 mod calls;
 mod tally;
 mod task;
 
 ghost use Rattle.std.specs.Prelude.{◌≤◌, length};
 
-use libc::STDERR_FILENO;
+use std::io::Read;
 
 // What an output holds before a task.
 const FILL: u8 = 165;
 
-fn main() {
+fn main(rt: HostRuntime) {
     let mut given = [0u8; task::GIVEN];
     let mut out = [0u8; task::ROOM];
-    if !tally::print(run(&mut given, &mut out)) {
-        io::write_all(STDERR_FILENO, b"call_bench: cannot write\n");
+    let tally = run(&mut rt.reader(), &mut given, &mut out);
+    if !tally::print(&rt, tally) {
+        let _ = eprintln!(rt; "call_bench: cannot write");
     }
 }
 
 // A proved loop ends: this one where the input does, or after more turns than any run takes.
-fn run(given: &mut [u8; task::GIVEN], out: &mut [u8]) -> [u64; tally::CELLS] {
+fn run(
+    source: &mut impl Read,
+    given: &mut [u8; task::GIVEN],
+    out: &mut [u8],
+) -> [u64; tally::CELLS] {
     let mut tally = [0u64; tally::CELLS];
     let mut turns = u64::MAX;
     while 0 < turns {
-        if !task::read(given) {
+        if !task::read(source, given) {
             break;
         }
         done(given, out, &mut tally);

@@ -3,7 +3,6 @@
 ghost use Rattle.std.specs.Prelude.{◌<◌};
 
 use answers::Answer;
-use libc::STDOUT_FILENO;
 use std::num;
 
 // Accepted, refused, and the two sums.
@@ -72,13 +71,7 @@ fn wide(b: u8) -> u64 {
 }
 
 // False where it could not be written.
-pub fn print(tally: [u64; CELLS]) -> bool {
-    let mut i = 0;
-    while i < SUMS {
-        io::print_decimal(STDOUT_FILENO, tally[i]);
-        io::write_all(STDOUT_FILENO, b" ");
-        i += 1;
-    }
-    io::print_decimal(STDOUT_FILENO, tally[SUMS]);
-    io::write_all(STDOUT_FILENO, b"\n")
+pub fn print(rt: &impl Print, tally: [u64; CELLS]) -> bool {
+    let [accepted, refused, sum, sums] = tally;
+    println!(rt; "{accepted} {refused} {sum} {sums}").is_ok()
 }

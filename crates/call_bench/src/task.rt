@@ -2,7 +2,8 @@
 // a pruning list, two bytes a name, or a second slip.
 ghost use Rattle.std.specs.Prelude.{◌≡◌, ◌≤◌, length};
 
-use libc::STDIN_FILENO;
+use std::io::Read;
+use text_lines::reading;
 
 // The longest part or output that 16 bits announce, and a whole task.
 pub const ROOM: usize = 65535;
@@ -23,21 +24,21 @@ const SECOND: usize = 3;
 pub const OUTPUT: usize = 4;
 
 // Reads the next task; false at the end of the input.
-pub fn read(given: &mut [u8; GIVEN]) -> bool
+pub fn read(source: &mut impl Read, given: &mut [u8; GIVEN]) -> bool
     ensures { length given.new ≡ 131080 }
 {
-    if fetched(given, 0, HEAD) < HEAD {
+    if fetched(source, given, 0, HEAD) < HEAD {
         return false;
     }
     let end = end(given);
-    fetched(given, HEAD, end);
+    fetched(source, given, HEAD, end);
     true
 }
 
-fn fetched(area: &mut [u8], from: usize, to: usize) -> usize
+fn fetched(source: &mut impl Read, area: &mut [u8], from: usize, to: usize) -> usize
     requires { (from ≤ to) × (to ≤ length area.old) }
 {
-    io::read_full(STDIN_FILENO, &mut area[from..to])
+    reading::full(source, &mut area[from..to])
 }
 
 // Where the first part ends, and where the second.

@@ -3,6 +3,7 @@ ghost use Rattle.std.specs.Prelude.{◌+◌, ◌≤◌, length};
 
 use crate::words;
 use outcomes::Refusal;
+use pages::Complaints;
 use titles::{Composed, Title};
 
 // The bytes of `composed `, and the longest answer: that, a title and a line feed.
@@ -11,6 +12,7 @@ const WORD: usize = 9;
 const ROOM: usize = WORD + Title::MAX_BYTES + 1;
 
 pub fn put(
+    rt: &(impl Print + Complaints),
     title: &[u8],
     line: usize,
     text: &mut [u8; pages::BYTES],
@@ -18,44 +20,50 @@ pub fn put(
     is_bare: bool,
 ) -> usize {
     if is_bare {
-        return alone(title, line, text, at);
+        return alone(rt, title, line, text, at);
     }
-    named(title, text, at)
+    named(rt, title, text, at)
 }
 
 // `composed` and the title, or `refused`, the number and the place. The title is composed where its bytes are to stand,
 // since a refusal writes nothing.
-fn named(title: &[u8], text: &mut [u8; pages::BYTES], at: usize) -> usize {
-    let from = pages::room(text, at, ROOM);
+fn named(rt: &impl Print, title: &[u8], text: &mut [u8; pages::BYTES], at: usize) -> usize {
+    let from = pages::room(rt, text, at, ROOM);
     if pages::BYTES - ROOM < from {
         return pages::BROKEN;
     }
     let r = composed(title, text, from);
     if r.number != Refusal::ACCEPTED {
-        return refused(text, from, r);
+        return refused(rt, text, from, r);
     }
-    ended(text, from + WORD, r.length)
+    ended(rt, text, from + WORD, r.length)
 }
 
 fn composed(title: &[u8], text: &mut [u8], from: usize) -> Composed
     requires { from + 9 ≤ length text.old }
 {
-    bytes::copy(b"composed ", &mut text[from..]);
     let to = from + WORD;
+    text[from..to].copy_from_slice(b"composed ");
     titles::compose(title, &mut text[to..])
 }
 
 // The title alone, or its refusal in words.
-fn alone(title: &[u8], line: usize, text: &mut [u8; pages::BYTES], at: usize) -> usize {
-    let to = pages::room(text, at, ROOM);
+fn alone(
+    rt: &(impl Print + Complaints),
+    title: &[u8],
+    line: usize,
+    text: &mut [u8; pages::BYTES],
+    at: usize,
+) -> usize {
+    let to = pages::room(rt, text, at, ROOM);
     if pages::BYTES < to {
         return pages::BROKEN;
     }
     let r = bare(title, text, to);
     if r.number != Refusal::ACCEPTED {
-        return told(text, to, line, title, r);
+        return told(rt, text, to, line, title, r);
     }
-    ended(text, to, r.length)
+    ended(rt, text, to, r.length)
 }
 
 fn bare(title: &[u8], text: &mut [u8], to: usize) -> Composed
@@ -64,26 +72,27 @@ fn bare(title: &[u8], text: &mut [u8], to: usize) -> Composed
     titles::compose(title, &mut text[to..])
 }
 
-fn ended(text: &mut [u8; pages::BYTES], to: usize, n: usize) -> usize {
+fn ended(rt: &impl Print, text: &mut [u8; pages::BYTES], to: usize, n: usize) -> usize {
     let end = parts::end(text, to, n);
-    pages::byte(text, end, b'\n')
+    pages::byte(rt, text, end, b'\n')
 }
 
 // Writes out the titles before a refused one, and says on the page that is empty then why it is refused.
 fn told(
+    rt: &(impl Print + Complaints),
     text: &mut [u8; pages::BYTES],
     from: usize,
     line: usize,
     title: &[u8],
     r: Composed,
 ) -> usize {
-    let to = pages::flush(text, from);
+    let to = pages::flush(rt, text, from);
     if to == 0 {
-        words::complain(text, line, title, r);
+        words::complain(rt, text, line, title, r);
     }
     to
 }
 
-fn refused(text: &mut [u8; pages::BYTES], from: usize, r: Composed) -> usize {
-    pages::numbered(text, from, b"refused @ @\n", [r.number, r.place, 0])
+fn refused(rt: &impl Print, text: &mut [u8; pages::BYTES], from: usize, r: Composed) -> usize {
+    pages::numbered(rt, text, from, b"refused @ @\n", [r.number, r.place, 0])
 }

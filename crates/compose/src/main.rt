@@ -4,29 +4,47 @@
 // composed bytes alone, and refusals in words on standard error. The line feed is no part of a title, nor is a carriage
 // return before it, nor a byte order mark at the very start of the input.
 #![tactic(auto)]
+
 mod answers;
 mod words;
 
+use pages::Complaints;
+use std::env::{Env, FillError};
+use std::io::Read;
 use std::num;
 use text_lines::input;
-use text_lines::input::Input;
 
-fn main() {
+fn main(rt: HostRuntime) {
     let mut area = [0u8; input::ROOM];
     let mut text = [0u8; pages::BYTES];
-    run(&mut area, &mut text, 1 < os::arg_count());
+    let bare = has_word(&rt);
+    run(&rt, &mut rt.reader(), &mut area, &mut text, bare);
+}
+
+// Whether the program was given a word.
+fn has_word(rt: &impl Env) -> bool {
+    match rt.arg(1, &mut [0u8; 1]) {
+        Err(FillError::NotPresent) => false,
+        _ => true,
+    }
 }
 
 // A proved loop ends: this one where the input does, or after more turns than any run takes.
-fn run(area: &mut [u8; input::ROOM], text: &mut [u8; pages::BYTES], bare: bool) {
-    let mut r = Input::new();
+fn run(
+    rt: &(impl Print + Complaints),
+    source: &mut impl Read,
+    area: &mut [u8; input::ROOM],
+    text: &mut [u8; pages::BYTES],
+    bare: bool,
+) {
+    let mut r = input::Input::new();
     let mut line = 0;
     let mut to = 0;
     let mut turns = u64::MAX;
     while 0 < turns {
-        r = input::next(r, area);
+        r = input::next(source, r, area);
         line = num::wrapping_add_usize(line, r.line as usize);
-        to = turn(area, r, line, text, to, bare);
+        to = turn(rt, area, r, line, text, to, bare);
         if r.over {
             break;
         }
@@ -35,27 +53,28 @@ fn run(area: &mut [u8; input::ROOM], text: &mut [u8; pages::BYTES], bare: bool) 
         }
         turns -= 1;
     }
-    pages::ended(text, to, b"compose", r.failed);
+    pages::ended(rt, text, to, b"compose", r.failed);
 }
 
 // Answers a line. Where none is whole, the answers are written out.
 fn turn(
+    rt: &(impl Print + Complaints),
     area: &[u8; input::ROOM],
-    r: Input,
+    r: input::Input,
     line: usize,
     text: &mut [u8; pages::BYTES],
     to: usize,
     bare: bool,
 ) -> usize {
     if !r.line {
-        return pages::flush(text, to);
+        return pages::flush(rt, text, to);
     }
     let title = title(parts::bytes(area, r.from, r.to), line, r.over);
     // The input is a byte order mark alone: there is no title.
     if r.over && title.len() == 0 {
         return to;
     }
-    answers::put(title, line, text, to, bare)
+    answers::put(rt, title, line, text, to, bare)
 }
 
 // The title that stands on a line.

@@ -2,18 +2,37 @@
 ghost use Rattle.std.specs.Prelude.{◌<◌};
 
 use outcomes::Refusal;
+use pages::Complaints;
 use titles::{Composed, Title};
 
-pub fn complain(text: &mut [u8; pages::BYTES], line: usize, title: &[u8], r: Composed) {
-    let at = begun(text, line, r.number, r.place);
+pub fn complain(
+    rt: &(impl Print + Complaints),
+    text: &mut [u8; pages::BYTES],
+    line: usize,
+    title: &[u8],
+    r: Composed,
+) {
+    let at = begun(rt, text, line, r.number, r.place);
     let rest = parts::bytes(title, r.place, title.len());
-    let end = reason(text, at, kind(r.number), rest);
-    let to = pages::byte(text, end, b'\n');
-    pages::complain(text, to);
+    let end = reason(rt, text, at, kind(r.number), rest);
+    let to = pages::byte(rt, text, end, b'\n');
+    pages::complain(rt, text, to);
 }
 
-fn begun(text: &mut [u8; pages::BYTES], line: usize, number: usize, place: usize) -> usize {
-    pages::numbered(text, 0, b"line @: refused @ at @: ", [line, number, place])
+fn begun(
+    rt: &impl Print,
+    text: &mut [u8; pages::BYTES],
+    line: usize,
+    number: usize,
+    place: usize,
+) -> usize {
+    pages::numbered(
+        rt,
+        text,
+        0,
+        b"line @: refused @ at @: ",
+        [line, number, place],
+    )
 }
 
 // Which line of the reasons a number has.
@@ -27,9 +46,15 @@ fn kind(number: usize) -> usize {
 }
 
 // What is wrong with the title, of which the rest begins with the bytes that are refused.
-fn reason(text: &mut [u8; pages::BYTES], at: usize, kind: usize, rest: &[u8]) -> usize {
+fn reason(
+    rt: &impl Print,
+    text: &mut [u8; pages::BYTES],
+    at: usize,
+    kind: usize,
+    rest: &[u8],
+) -> usize {
     let to = if 1 < kind {
-        code(text, at, utf8::character(rest, 0))
+        code(rt, text, at, utf8::character(rest, 0))
     } else {
         at
     };
@@ -37,6 +62,7 @@ fn reason(text: &mut [u8; pages::BYTES], at: usize, kind: usize, rest: &[u8]) ->
         b"longer than @ bytes\nnot UTF-8: byte %\n is a mark without a letter that takes it\n is outside the repertoire";
     let byte = parts::bytes(rest, 0, parts::end(rest, 0, 1));
     pages::form(
+        rt,
         text,
         to,
         parts::words::line(reasons, kind),
@@ -46,12 +72,12 @@ fn reason(text: &mut [u8; pages::BYTES], at: usize, kind: usize, rest: &[u8]) ->
 }
 
 // A character's number: `U+` and four hex digits, or as many as it takes.
-fn code(text: &mut [u8; pages::BYTES], at: usize, c: u32) -> usize {
-    let mut to = pages::word(text, at, b"U+");
+fn code(rt: &impl Print, text: &mut [u8; pages::BYTES], at: usize, c: u32) -> usize {
+    let mut to = pages::word(rt, text, at, b"U+");
     let mut weight: u32 = 1048576;
     while 0 < weight {
         if weight <= 4096 || weight <= c {
-            to = pages::byte(text, to, glyph(c / weight % 16));
+            to = pages::byte(rt, text, to, glyph(c / weight % 16));
         }
         weight /= 16;
     }

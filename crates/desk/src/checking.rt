@@ -1,7 +1,10 @@
 // desk check: a line a file.
 use desk_files::messages::Said;
+use desk_files::system::System;
 use desk_files::{files, messages, refusals};
 use outcomes::Refusal;
+use pages::Complaints;
+use std::env::Env;
 use std::num;
 
 // How many bytes stand on the page, and how many files were refused.
@@ -12,35 +15,42 @@ struct Told {
 }
 
 // A line for each argument that names a file, and behind them how many were refused.
-pub fn check(count: usize) {
+pub fn check(rt: &impl System, count: usize) {
     let mut text = [0u8; pages::BYTES];
     let mut told = Told { to: 0, refused: 0 };
     let mut i = 2;
     while i < count {
-        told = file(&mut text, told, i);
+        told = file(rt, &mut text, told, i);
         i += 1;
     }
-    ended(&text, told.to, told.refused, i - 2);
+    ended(rt, &text, told.to, told.refused, i - 2);
 }
 
-fn ended(text: &[u8; pages::BYTES], to: usize, refused: usize, files: usize) {
-    if messages::close(text, to) {
+fn ended(
+    rt: &(impl Print + Env + Complaints),
+    text: &[u8; pages::BYTES],
+    to: usize,
+    refused: usize,
+    files: usize,
+) {
+    if messages::close(rt, text, to) {
         if 0 < refused {
-            messages::say(Said::SOME_REFUSED, [refused, files, 0], 0);
+            messages::say(rt, Said::SOME_REFUSED, [refused, files, 0], 0);
         }
     }
 }
 
-fn file(text: &mut [u8; pages::BYTES], told: Told, i: usize) -> Told {
+fn file(rt: &impl System, text: &mut [u8; pages::BYTES], told: Told, i: usize) -> Told {
     let mut space = [0u8; files::ROOM];
-    let n = files::read(i, &mut space);
+    let n = files::read(rt, i, &mut space);
     if n == files::UNREAD {
         return told;
     }
-    checked(text, told.to, told.refused, i, files::front(&space, n))
+    checked(rt, text, told.to, told.refused, i, files::front(&space, n))
 }
 
 fn checked(
+    rt: &(impl Print + Env),
     text: &mut [u8; pages::BYTES],
     from: usize,
     refused: usize,
@@ -50,10 +60,10 @@ fn checked(
     let a = slips::check::check(slip);
     if a.number == Refusal::ACCEPTED {
         let label = a.label;
-        let to = refusals::accepted(text, from, i, a.length, a.blocks, &label);
+        let to = refusals::accepted(rt, text, from, i, a.length, a.blocks, &label);
         return Told { to, refused };
     }
-    let to = refusals::refused(text, from, i, a.number, a.place);
+    let to = refusals::refused(rt, text, from, i, a.number, a.place);
     Told {
         to,
         refused: num::wrapping_add_usize(refused, 1),

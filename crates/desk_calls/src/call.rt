@@ -1,6 +1,5 @@
 // The calls that a request may name, and the fields that each asks for.
-use bytes::scan;
-use parts::words;
+use parts::{scan, words};
 
 // The calls' numbers, in the order of the lines that have their words and their fields.
 #[derive(Drop)]

@@ -3,6 +3,7 @@ use crate::answer;
 
 // find TYPE, and of each record TYPES COUNTS LENGTHS VALUES: the answer has the record that holds it and the value
 pub fn find(
+    rt: &impl Print,
     cells: &[u16; fields::CELLS],
     bytes: &[u8; fields::BYTES],
     ends: &[usize; fields::ENDS],
@@ -20,6 +21,6 @@ pub fn find(
     let v2 = fields::text(bytes, ends, 8);
     let holder = lookup::holder(kind, t1, c1, l1, v1, t2, c2, l2, v2);
     let value = lookup::find(kind, t1, c1, l1, v1, t2, c2, l2, v2);
-    let at = pages::decimal(text, from, holder);
-    answer::bytes(text, at, value)
+    let at = pages::decimal(rt, text, from, holder);
+    answer::bytes(rt, text, at, value)
 }

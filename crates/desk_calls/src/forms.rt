@@ -4,18 +4,20 @@ use answers::Answer;
 
 // check SLIP
 pub fn check(
+    rt: &impl Print,
     bytes: &[u8; fields::BYTES],
     ends: &[usize; fields::ENDS],
     text: &mut [u8; pages::BYTES],
     at: usize,
 ) -> usize {
     let a = slips::check::check(fields::text(bytes, ends, 0));
-    let to = answer::head(text, at, a);
-    pages::byte(text, to, b'\n')
+    let to = answer::head(rt, text, at, a);
+    pages::byte(rt, text, to, b'\n')
 }
 
 // unpack SLIP ROOM ROOM ROOM ROOM: cells of types, counts and lengths, and bytes of values
 pub fn unpack(
+    rt: &impl Print,
     cells: &[u16; fields::CELLS],
     bytes: &[u8; fields::BYTES],
     ends: &[usize; fields::ENDS],
@@ -27,6 +29,7 @@ pub fn unpack(
     let mut lengths = [room::FILL_CELL; room::MOST];
     let mut values = [room::FILL; room::MOST];
     unpacked(
+        rt,
         fields::text(bytes, ends, 0),
         room::cells(&mut types, fields::number(cells, ends, 1)),
         room::cells(&mut counts, fields::number(cells, ends, 2)),
@@ -38,6 +41,7 @@ pub fn unpack(
 }
 
 fn unpacked(
+    rt: &impl Print,
     slip: &[u8],
     types: &mut [u16],
     counts: &mut [u16],
@@ -47,10 +51,11 @@ fn unpacked(
     at: usize,
 ) -> usize {
     let a = unpack::unpack(slip, types, counts, lengths, values);
-    told(a, types, counts, lengths, values, text, at)
+    told(rt, a, types, counts, lengths, values, text, at)
 }
 
 fn told(
+    rt: &impl Print,
     a: Answer,
     types: &[u16],
     counts: &[u16],
@@ -59,9 +64,9 @@ fn told(
     text: &mut [u8; pages::BYTES],
     from: usize,
 ) -> usize {
-    let mut at = answer::head(text, from, a);
-    at = answer::column(text, at, types);
-    at = answer::column(text, at, counts);
-    at = answer::column(text, at, lengths);
-    answer::bytes(text, at, values)
+    let mut at = answer::head(rt, text, from, a);
+    at = answer::column(rt, text, at, types);
+    at = answer::column(rt, text, at, counts);
+    at = answer::column(rt, text, at, lengths);
+    answer::bytes(rt, text, at, values)
 }

@@ -1,5 +1,6 @@
 // Requests for the public calls, a line each, and their answers.
 #![tactic(auto)]
+
 mod answer;
 mod call;
 mod finding;

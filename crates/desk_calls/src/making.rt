@@ -4,6 +4,7 @@ use crate::{answer, room};
 use answers::Answer;
 
 pub fn made(
+    rt: &impl Print,
     call: usize,
     cells: &[u16; fields::CELLS],
     bytes: &[u8; fields::BYTES],
@@ -13,7 +14,16 @@ pub fn made(
 ) -> usize {
     let mut out = [room::FILL; room::MOST];
     let n = fields::number(cells, ends, last(call));
-    told(call, cells, bytes, ends, room::bytes(&mut out, n), text, at)
+    told(
+        rt,
+        call,
+        cells,
+        bytes,
+        ends,
+        room::bytes(&mut out, n),
+        text,
+        at,
+    )
 }
 
 // Which field has the room.
@@ -26,6 +36,7 @@ fn last(call: usize) -> usize {
 }
 
 fn told(
+    rt: &impl Print,
     call: usize,
     cells: &[u16; fields::CELLS],
     bytes: &[u8; fields::BYTES],
@@ -35,17 +46,23 @@ fn told(
     at: usize,
 ) -> usize {
     let a = answered(call, cells, bytes, ends, out);
-    let to = begun(call, text, at, a);
-    answer::line(text, to, out)
+    let to = begun(rt, call, text, at, a);
+    answer::line(rt, text, to, out)
 }
 
 // What stands before the buffer: of a title number, place and length.
-fn begun(call: usize, text: &mut [u8; pages::BYTES], from: usize, a: Answer) -> usize {
+fn begun(
+    rt: &impl Print,
+    call: usize,
+    text: &mut [u8; pages::BYTES],
+    from: usize,
+    a: Answer,
+) -> usize {
     if call == Call::COMPOSE {
-        return answer::numbers(text, from, a.number, a.place, a.length);
+        return answer::numbers(rt, text, from, a.number, a.place, a.length);
     }
-    let at = answer::head(text, from, a);
-    pages::byte(text, at, b' ')
+    let at = answer::head(rt, text, from, a);
+    pages::byte(rt, text, at, b' ')
 }
 
 // prune SLIP LIST ROOM, join SLIP SLIP ROOM, compose TITLE ROOM, and pack

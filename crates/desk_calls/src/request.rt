@@ -3,15 +3,16 @@ use crate::call::Call;
 use crate::{answer, call, finding, forms, making, showing};
 
 // Answers a line behind the `at` bytes of the text.
-pub fn answered(line: &[u8], text: &mut [u8; pages::BYTES], at: usize) -> usize {
+pub fn answered(rt: &impl Print, line: &[u8], text: &mut [u8; pages::BYTES], at: usize) -> usize {
     let mut cells = [0u16; fields::CELLS];
     let mut bytes = [0u8; fields::BYTES];
     let mut ends = [0usize; fields::ENDS];
     let call = call::asked(line, &mut cells, &mut bytes, &mut ends);
-    answer_to(call, &cells, &bytes, &ends, text, at)
+    answer_to(rt, call, &cells, &bytes, &ends, text, at)
 }
 
 fn answer_to(
+    rt: &impl Print,
     call: usize,
     cells: &[u16; fields::CELLS],
     bytes: &[u8; fields::BYTES],
@@ -20,13 +21,13 @@ fn answer_to(
     at: usize,
 ) -> usize {
     match call {
-        Call::CHECK => forms::check(bytes, ends, text, at),
+        Call::CHECK => forms::check(rt, bytes, ends, text, at),
         Call::PACK | Call::PRUNE | Call::JOIN | Call::COMPOSE => {
-            making::made(call, cells, bytes, ends, text, at)
+            making::made(rt, call, cells, bytes, ends, text, at)
         }
-        Call::UNPACK => forms::unpack(cells, bytes, ends, text, at),
-        Call::FIND => finding::find(cells, bytes, ends, text, at),
-        Call::SHOW => showing::show(bytes, ends, text, at),
-        _ => answer::bad(text, at),
+        Call::UNPACK => forms::unpack(rt, cells, bytes, ends, text, at),
+        Call::FIND => finding::find(rt, cells, bytes, ends, text, at),
+        Call::SHOW => showing::show(rt, bytes, ends, text, at),
+        _ => answer::bad(rt, text, at),
     }
 }

@@ -1,7 +1,10 @@
 // A file that an argument names.
-use crate::messages;
 use crate::messages::Said;
-use libc::STDIN_FILENO;
+use crate::system::System;
+use crate::{arguments, messages};
+use std::io::{ErrorKind, Read};
+use std::rt::Files;
+use std::{fs, io, str};
 use table_text::reading::BYTES;
 use text_lines::reading;
 use text_lines::reading::Got;
@@ -14,44 +17,40 @@ pub const UNREAD: usize = usize::MAX;
 
 // Reads the file that argument i names from its start as far as there is room, and answers how many bytes that is;
 // `-` is standard input.
-pub fn read(i: usize, space: &mut [u8; ROOM]) -> usize {
-    let n = got(opened(i), space);
+pub fn read(rt: &impl System, i: usize, space: &mut [u8; ROOM]) -> usize {
+    let mut name = [0u8; arguments::BYTES];
+    let k = arguments::put(rt, i, &mut name);
+    let n = got(rt, &name[..k], space);
     if n == UNREAD {
-        messages::say(Said::CANNOT_READ, [0, 0, 0], i);
+        messages::say(rt, Said::CANNOT_READ, [0, 0, 0], i);
     }
     n
 }
 
-fn got(fd: i32, space: &mut [u8; ROOM]) -> usize {
-    if fd < 0 {
-        return UNREAD;
+fn got(rt: &impl System, name: &[u8], space: &mut [u8; ROOM]) -> usize {
+    if check::same(name, b"-") {
+        return taken(&mut rt.reader(), space);
     }
-    let n = taken(fd, space);
-    if fd != STDIN_FILENO {
-        libc::close(fd);
+    match opened(rt, name) {
+        Ok(mut file) => taken(&mut file, space),
+        Err(_) => UNREAD,
     }
-    n
 }
 
-fn taken(fd: i32, space: &mut [u8; ROOM]) -> usize {
-    let got = reading::all(fd, space);
+fn taken(source: &mut impl Read, space: &mut [u8; ROOM]) -> usize {
+    let got = reading::all(source, space);
     match got {
         Got::Bytes(n) => n,
         Got::Failed => UNREAD,
     }
 }
 
-fn opened(i: usize) -> i32 {
-    let mut name = io::buffer();
-    let n = os::arg(i, &mut name);
-    named(&name[..n])
-}
-
-fn named(name: &[u8]) -> i32 {
-    if check::same(name, b"-") {
-        return STDIN_FILENO;
+// A name that is not UTF-8 is no path.
+fn opened<R: Files>(rt: &R, name: &[u8]) -> io::Result<R::File> {
+    match str::from_utf8(name) {
+        Ok(path) => fs::open(rt, path),
+        Err(_) => Err(io::Error::from(ErrorKind::InvalidInput)),
     }
-    os::open_read(name)
 }
 
 // The first n bytes of what was read.

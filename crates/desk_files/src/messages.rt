@@ -1,7 +1,8 @@
 // What is said on standard error, a line each, and how to use the program. A file is told by the number of its argument.
-use crate::refusals;
-use libc::STDOUT_FILENO;
+use crate::{arguments, refusals};
+use pages::Complaints;
 use parts::words;
+use std::env::Env;
 
 // What may be said, each with the number of the line that has its words. The commands' numbers are those of their usage.
 #[derive(Drop)]
@@ -43,7 +44,14 @@ impl Said {
 }
 
 // A text by its pattern, in which `$` stands for the name.
-fn put(text: &mut [u8; pages::BYTES], at: usize, k: usize, n: [usize; 3], name: &[u8]) -> usize {
+fn put(
+    rt: &impl Print,
+    text: &mut [u8; pages::BYTES],
+    at: usize,
+    k: usize,
+    n: [usize; 3],
+    name: &[u8],
+) -> usize {
     let lines = b"desk: usage: desk check FILE..
 desk: usage: desk tree FILE
 desk: usage: desk unpack FILE
@@ -79,41 +87,50 @@ desk: $: no row in line @: more than one value
 desk: $: no row in line @: a value longer than any slip
 desk: $: no row in line @: more rows than a slip has
 ";
-    pages::form(text, at, words::line(lines, k), n, name)
+    pages::form(rt, text, at, words::line(lines, k), n, name)
 }
 
 // The same, and `$` stands for argument i.
 pub fn form(
+    rt: &(impl Print + Env),
     text: &mut [u8; pages::BYTES],
     at: usize,
     line: usize,
     numbers: [usize; 3],
     i: usize,
 ) -> usize {
-    let mut space = io::buffer();
-    let n = os::arg(i, &mut space);
-    put(text, at, line, numbers, &space[..n])
+    let mut space = [0u8; arguments::BYTES];
+    let n = arguments::put(rt, i, &mut space);
+    put(rt, text, at, line, numbers, &space[..n])
 }
 
 // Says a line.
-pub fn say(line: usize, numbers: [usize; 3], i: usize) {
+pub fn say(rt: &(impl Print + Env + Complaints), line: usize, numbers: [usize; 3], i: usize) {
     let mut text = [0u8; pages::BYTES];
-    let at = form(&mut text, 0, line, numbers, i);
-    let to = pages::byte(&mut text, at, b'\n');
-    pages::complain(&text, to);
+    let at = form(rt, &mut text, 0, line, numbers, i);
+    let to = pages::byte(rt, &mut text, at, b'\n');
+    pages::complain(rt, &text, to);
 }
 
 // Says a refusal of the file of argument i, or with FIRST as the head of what it and the file before it are together.
-pub fn refused(head: usize, i: usize, number: usize, place: usize, second: usize) {
+pub fn refused(
+    rt: &(impl Print + Env + Complaints),
+    head: usize,
+    i: usize,
+    number: usize,
+    place: usize,
+    second: usize,
+) {
     let mut text = [0u8; pages::BYTES];
-    let at = form(&mut text, 0, head, [0, 0, 0], 2);
-    let end = form(&mut text, at, Said::REFUSED, [number, place, 0], i);
-    let to = refusals::told(&mut text, end, number, place, second);
-    pages::complain(&text, to);
+    let at = form(rt, &mut text, 0, head, [0, 0, 0], 2);
+    let end = form(rt, &mut text, at, Said::REFUSED, [number, place, 0], i);
+    let to = refusals::told(rt, &mut text, end, number, place, second);
+    pages::complain(rt, &text, to);
 }
 
-pub fn help() {
+pub fn help(rt: &(impl Print + Env + Complaints)) {
     print(
+        rt,
         b"desk check FILE..            whether each file is a slip
 desk tree FILE               the tree, with the entry numbers for prune
 desk unpack FILE             the table as text
@@ -128,22 +145,22 @@ The file - is standard input.
     );
 }
 
-pub fn version() {
-    print(b"desk 1, for slips of edition 1\n");
+pub fn version(rt: &(impl Print + Env + Complaints)) {
+    print(rt, b"desk 1, for slips of edition 1\n");
 }
 
 // Whether the last page could be written out; where not, that is said.
-pub fn close(text: &[u8; pages::BYTES], at: usize) -> bool {
-    if pages::flush(text, at) == pages::BROKEN {
-        say(Said::CANNOT_WRITE, [0, 0, 0], 0);
+pub fn close(rt: &(impl Print + Env + Complaints), text: &[u8; pages::BYTES], at: usize) -> bool {
+    if pages::flush(rt, text, at) == pages::BROKEN {
+        say(rt, Said::CANNOT_WRITE, [0, 0, 0], 0);
         return false;
     }
     true
 }
 
 // Writes to standard output, or says that it could not.
-pub fn print(bytes: &[u8]) {
-    if !io::write_all(STDOUT_FILENO, bytes) {
-        say(Said::CANNOT_WRITE, [0, 0, 0], 0);
+pub fn print(rt: &(impl Print + Env + Complaints), bytes: &[u8]) {
+    if rt.write_all(bytes).is_err() {
+        say(rt, Said::CANNOT_WRITE, [0, 0, 0], 0);
     }
 }

@@ -2,10 +2,12 @@
 use crate::messages;
 use crate::messages::Said;
 use parts::words;
+use std::env::Env;
 use tables::limits::Slip;
 
 // The line of a file in `desk check`; i is the number of its argument.
 pub fn accepted(
+    rt: &(impl Print + Env),
     text: &mut [u8; pages::BYTES],
     from: usize,
     i: usize,
@@ -13,24 +15,26 @@ pub fn accepted(
     blocks: usize,
     label: &[u8; Slip::LABEL_BYTES],
 ) -> usize {
-    let to = messages::form(text, from, Said::ACCEPTED, [length, blocks, 0], i);
-    let end = pages::hex(text, to, label);
-    pages::byte(text, end, b'\n')
+    let to = messages::form(rt, text, from, Said::ACCEPTED, [length, blocks, 0], i);
+    let end = pages::hex(rt, text, to, label);
+    pages::byte(rt, text, end, b'\n')
 }
 
 pub fn refused(
+    rt: &(impl Print + Env),
     text: &mut [u8; pages::BYTES],
     from: usize,
     i: usize,
     number: usize,
     place: usize,
 ) -> usize {
-    let to = messages::form(text, from, Said::CHECKED, [number, place, 0], i);
-    told(text, to, number, place, 0)
+    let to = messages::form(rt, text, from, Said::CHECKED, [number, place, 0], i);
+    told(rt, text, to, number, place, 0)
 }
 
 // The words of a refusal, a line a number, and before them what the place is where the number tells.
 pub fn told(
+    rt: &impl Print,
     text: &mut [u8; pages::BYTES],
     from: usize,
     number: usize,
@@ -55,6 +59,12 @@ pub fn told(
 : join over 1,023 nodes or 32,768 bytes
 : row @: table not of the form
 ";
-    let to = pages::numbered(text, from, words::line(lines, number), [place, second, 0]);
-    pages::byte(text, to, b'\n')
+    let to = pages::numbered(
+        rt,
+        text,
+        from,
+        words::line(lines, number),
+        [place, second, 0],
+    );
+    pages::byte(rt, text, to, b'\n')
 }

@@ -32,17 +32,17 @@ pub entries_end : (types counts lengths values : List ℕ) (i at : ℕ) → leng
 entries_end types counts lengths values i at h = rw (drop_of_length-le types h)
 
 -- where no row is bad, each is of the form
-pub row_fits :
+pub row_fits_lem :
     (b : ℕ) (types counts lengths : List ℕ) (i : ℕ)
     → first_bad b types counts lengths ≡ b + length types
     → i < length types
     → row_fits (get_or types i 0) (get_or counts i 0) (get_or lengths i 0) ≡ true
 unfolding first_bad
-row_fits b [] counts lengths i e h = absurd (omega arith)
-row_fits b (t ∷ types) [] lengths i e h = absurd (omega arith)
-row_fits b (t ∷ types) (c ∷ counts) [] i e h = absurd (omega arith)
-row_fits b (t ∷ types) (c ∷ counts) (l ∷ lengths) i e h =
-    go (row_fits t c l) refl e (λ j p q. row_fits (b + 1) types counts lengths j p q) i h
+row_fits_lem b [] counts lengths i e h = absurd (omega arith)
+row_fits_lem b (t ∷ types) [] lengths i e h = absurd (omega arith)
+row_fits_lem b (t ∷ types) (c ∷ counts) [] i e h = absurd (omega arith)
+row_fits_lem b (t ∷ types) (c ∷ counts) (l ∷ lengths) i e h =
+    go (row_fits t c l) refl e (λ j p q. row_fits_lem (b + 1) types counts lengths j p q) i h
   where
     go : (f : Bool) → row_fits t c l ≡ f → cond f (first_bad (b + 1) types counts lengths) b ≡ b + suc (length types)
         → ((j : ℕ) → first_bad (b + 1) types counts lengths ≡ b + 1 + length types → j < length types → row_fits (get_or types j 0) (get_or counts j 0) (get_or lengths j 0) ≡ true)

@@ -14,7 +14,7 @@ use tables::areas::{Full, HEAD, Small};
 use tables::form;
 use tables::limits::Slip;
 
-#[derive(Drop)]
+#[derive(Clone, Copy)]
 pub struct Judged {
     pub number: usize,
     pub place: usize,

@@ -8,10 +8,11 @@
 // A function that decodes is told how far the area is filled, and answers how far it is filled then, or BAD. Of BAD, or
 // of a full area, comes BAD: so it need be looked at only once, behind a field.
 #![tactic(auto)]
+
 ghost use Rattle.std.specs.Prelude.{◌≤◌, ◌<◌};
 
-use bytes::scan;
 pub use digits::{OVER, number_of};
+use parts::scan;
 use text_lines::input;
 
 // The longest line, in bytes.

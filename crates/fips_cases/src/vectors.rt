@@ -4,13 +4,12 @@ ghost use Rattle.std.specs.Prelude.{◌≤◌};
 
 use crate::{messages, values};
 use digits::NONE;
-use libc::STDOUT_FILENO;
 use parts::words;
 use std::num::wrapping_add_usize;
 
 // The lines read; the vectors begun, and how many of them agree; the bits of the message that is awaited; whether a digest was made
 // for the vector, and the last one.
-#[derive(Drop)]
+#[derive(Clone, Copy)]
 pub struct Told {
     pub line: usize,
     pub vectors: usize,
@@ -58,14 +57,14 @@ impl Told {
 }
 
 // The text of a line, with or without its carriage return. All but a blank one, a comment and a heading belong to a vector.
-pub fn taken(t: Told, whole: &[u8]) -> Told {
+pub fn taken(rt: &impl Print, t: Told, whole: &[u8]) -> Told {
     let text = bare(whole);
     let k = kind(text);
     let value = values::value(
         text,
         words::line(b"Len = \nCOUNT = \nSeed = \nMsg = \nMD = ", k),
     );
-    read(t, k, value)
+    read(rt, t, k, value)
 }
 
 // Which word the text is to begin with, by its first byte; 5 where it says nothing. What is neither another word nor a message is
@@ -95,13 +94,13 @@ fn second(text: &[u8]) -> usize
     0
 }
 
-fn read(t: Told, kind: usize, value: &[u8]) -> Told {
+fn read(rt: &impl Print, t: Told, kind: usize, value: &[u8]) -> Told {
     match kind {
         0 => measured(t, value),
         1 => counted(t, value),
         2 => seeded(t, value),
-        3 => hashed(t, value),
-        4 => judged(t, value),
+        3 => hashed(rt, t, value),
+        4 => judged(rt, t, value),
         _ => t,
     }
 }
@@ -135,9 +134,9 @@ fn seeded(t: Told, seed: &[u8]) -> Told {
 }
 
 // A message; where nothing follows its word, a digest that is none.
-fn hashed(t: Told, msg: &[u8]) -> Told {
+fn hashed(rt: &impl Print, t: Told, msg: &[u8]) -> Told {
     if msg.len() == 0 {
-        return judged(t, msg);
+        return judged(rt, t, msg);
     }
     let digits = messages::shown(t.bits, msg);
     let h = messages::hashed(digits);
@@ -147,11 +146,11 @@ fn hashed(t: Told, msg: &[u8]) -> Told {
 }
 
 // A digest: the vector agrees where one was made and is the same; where not, a line says so.
-fn judged(t: Told, md: &[u8]) -> Told {
+fn judged(rt: &impl Print, t: Told, md: &[u8]) -> Told {
     let label = t.label;
     let agrees = t.made & same(md, label);
     if !agrees {
-        say(t.made as usize, t.line);
+        say(rt, t.made as usize, t.line);
     }
     t.with(wrapping_add_usize(t.agree, agrees as usize), false, label)
 }
@@ -163,19 +162,16 @@ fn same(md: &[u8], label: [u8; 32]) -> bool {
 }
 
 // What is to be said of a line: 0, that there is nothing to compare; 1, that a digest differs; 2, that the line is too long.
-pub fn say(what: usize, line: usize) {
-    io::write_all(
-        STDOUT_FILENO,
-        words::line(
-            b"nothing to compare at line \ndiffers at line \ntoo long at line ",
-            what,
-        ),
-    );
-    count(line, b"\n");
+pub fn say(rt: &impl Print, what: usize, line: usize) {
+    let _ = rt.write_all(words::line(
+        b"nothing to compare at line \ndiffers at line \ntoo long at line ",
+        what,
+    ));
+    count(rt, line, b"\n");
 }
 
 // A number, and the words behind it.
-pub fn count(n: usize, behind: &[u8]) {
-    io::print_decimal(STDOUT_FILENO, n as u64);
-    io::write_all(STDOUT_FILENO, behind);
+pub fn count(rt: &impl Print, n: usize, behind: &[u8]) {
+    let _ = print!(rt; "{n}");
+    let _ = rt.write_all(behind);
 }

@@ -17,7 +17,7 @@ use Rattle.answers.specs.Answers.{refused}
 use Rattle.outcomes.specs.Outcome.{over, Leaves}
 use Rattle.handing.specs.Handing.{lacks_room, handed_of}
 
--- what `bytes::copy` leaves
+-- what `lists::copy` leaves
 pub copied_whole : (x y : List ℕ) → take (length x) x ++ drop (length x) y ≡ over x y
 copied_whole x y = rw take-length
 

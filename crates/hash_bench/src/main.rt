@@ -1,15 +1,19 @@
 // Hashes its input over and over, for bench/hash to time. The input's first two bytes say how many times, the more
 // significant first; the rest is cut into texts of 4,096 bytes.
 #![tactic(auto)]
+
 ghost use Rattle.std.specs.Prelude.{min, ◌≡◌};
 
-use libc::{STDERR_FILENO, STDIN_FILENO, STDOUT_FILENO};
+use text_lines::reading;
 
-fn main() {
-    let mut space = io::large_buffer();
-    let n = io::read_full(STDIN_FILENO, &mut space);
-    if !print(repeated(&space[..n])) {
-        io::write_all(STDERR_FILENO, b"hash_bench: cannot write\n");
+// What is read of the input, in bytes.
+const ROOM: usize = 65536;
+
+fn main(rt: HostRuntime) {
+    let mut space = [0u8; ROOM];
+    let n = reading::full(&mut rt.reader(), &mut space);
+    if !print(&rt, repeated(&space[..n])) {
+        let _ = eprintln!(rt; "hash_bench: cannot write");
     }
 }
 
@@ -48,11 +52,11 @@ fn size(left: usize) -> usize
 }
 
 // False where it could not be written.
-fn print(label: [u8; 32]) -> bool {
-    let mut i = 0;
-    while i < 32 {
-        io::print_hex(STDOUT_FILENO, label[i] as u64, 2);
-        i += 1;
+fn print(rt: &impl Print, label: [u8; 32]) -> bool {
+    for b in label {
+        if print!(rt; "{b:02x}").is_err() {
+            return false;
+        }
     }
-    io::write_all(STDOUT_FILENO, b"\n")
+    rt.println("").is_ok()
 }

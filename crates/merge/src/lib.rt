@@ -1,5 +1,6 @@
 // The join of the two trees that the columns hold.
 #![tactic(auto)]
+
 ghost use Rattle.std.specs.Prelude.{◌*◌, ◌≤◌, length};
 ghost use Rattle.tables.specs.Areas.{small_nodes};
 ghost use Rattle.join_tables.specs.Clauses.{MergeAsks, MergeGives, PlanRoom};

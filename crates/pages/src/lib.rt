@@ -2,17 +2,27 @@
 // answers how many stand there then. A full page is written out and begun anew. Where that fails the answer is BROKEN,
 // which every function hands on: behind a failed write nothing more is written.
 #![tactic(auto)]
-ghost use Rattle.std.specs.Prelude.{◌+◌, ◌≤◌, ◌<◌, length};
 
-use libc::{STDERR_FILENO, STDOUT_FILENO};
+ghost use Rattle.std.specs.Prelude.{◌+◌, ◌≤◌, ◌<◌, length};
 
 // More than `show` prints of any slip.
 pub const BYTES: usize = 98304;
 
 pub const BROKEN: usize = usize::MAX;
 
-pub fn byte(page: &mut [u8; BYTES], at: usize, b: u8) -> usize {
-    let to = room(page, at, 1);
+// Standard error, for bytes that need not be text. What cannot be written there is not said.
+pub trait Complaints {
+    fn complaint(&self, text: &[u8]);
+}
+
+impl Complaints for HostRuntime {
+    fn complaint(&self, text: &[u8]) {
+        let _ = self.stderr().write_all(text);
+    }
+}
+
+pub fn byte(rt: &impl Print, page: &mut [u8; BYTES], at: usize, b: u8) -> usize {
+    let to = room(rt, page, at, 1);
     if BYTES <= to {
         return BROKEN;
     }
@@ -20,13 +30,13 @@ pub fn byte(page: &mut [u8; BYTES], at: usize, b: u8) -> usize {
     to + 1
 }
 
-pub fn word(page: &mut [u8; BYTES], at: usize, text: &[u8]) -> usize {
-    let to = room(page, at, text.len());
+pub fn word(rt: &impl Print, page: &mut [u8; BYTES], at: usize, text: &[u8]) -> usize {
+    let to = room(rt, page, at, text.len());
     if BYTES < to {
         return BROKEN;
     }
     if BYTES - to < text.len() {
-        return sent(text);
+        return sent(rt, text);
     }
     put(page, to, text)
 }
@@ -34,26 +44,26 @@ pub fn word(page: &mut [u8; BYTES], at: usize, text: &[u8]) -> usize {
 fn put(page: &mut [u8], at: usize, text: &[u8]) -> usize
     requires { at + length text.now ≤ length page.old }
 {
-    bytes::copy(text, &mut page[at..]);
+    page[at..at + text.len()].copy_from_slice(text);
     at + text.len()
 }
 
 // Where n bytes more are to stand: behind the others or, where there is too little room, at the front of the next page.
-pub fn room(page: &[u8; BYTES], at: usize, n: usize) -> usize {
+pub fn room(rt: &impl Print, page: &[u8; BYTES], at: usize, n: usize) -> usize {
     if at <= BYTES {
         if n <= BYTES - at {
             return at;
         }
     }
-    flush(page, at)
+    flush(rt, page, at)
 }
 
 // Writes out what stands on the page.
-pub fn flush(page: &[u8; BYTES], at: usize) -> usize {
+pub fn flush(rt: &impl Print, page: &[u8; BYTES], at: usize) -> usize {
     if BYTES < at {
         return BROKEN;
     }
-    sent(front(page, at))
+    sent(rt, front(page, at))
 }
 
 // The first `at` bytes of a page.
@@ -62,8 +72,8 @@ pub fn front(page: &[u8; BYTES], at: usize) -> &[u8] {
 }
 
 // Writes a text out; the page is empty then.
-fn sent(text: &[u8]) -> usize {
-    if io::write_all(STDOUT_FILENO, text) {
+fn sent(rt: &impl Print, text: &[u8]) -> usize {
+    if rt.write_all(text).is_ok() {
         0
     } else {
         BROKEN
@@ -71,36 +81,43 @@ fn sent(text: &[u8]) -> usize {
 }
 
 // Writes out the last page of a program. Where not all of its text could be written, that is said.
-pub fn close(page: &[u8; BYTES], at: usize, program: &[u8]) {
-    if flush(page, at) == BROKEN {
-        say(program, b"cannot write");
+pub fn close(rt: &(impl Print + Complaints), page: &[u8; BYTES], at: usize, program: &[u8]) {
+    if flush(rt, page, at) == BROKEN {
+        say(rt, program, b"cannot write");
     }
 }
 
 // The same of a program that reads lines: where a read failed, that is said too.
-pub fn ended(page: &[u8; BYTES], at: usize, program: &[u8], failed: bool) {
-    close(page, at, program);
+pub fn ended(
+    rt: &(impl Print + Complaints),
+    page: &[u8; BYTES],
+    at: usize,
+    program: &[u8],
+    failed: bool,
+) {
+    close(rt, page, at, program);
     if failed {
-        say(program, b"cannot read");
+        say(rt, program, b"cannot read");
     }
 }
 
 // A line on standard error: who says it, and what.
-pub fn say(program: &[u8], words: &[u8]) {
+pub fn say(rt: &(impl Print + Complaints), program: &[u8], words: &[u8]) {
     let mut text = [0u8; BYTES];
-    let at = form(&mut text, 0, b"$: ", [0, 0, 0], program);
-    let to = form(&mut text, at, b"$\n", [0, 0, 0], words);
-    complain(&text, to);
+    let at = form(rt, &mut text, 0, b"$: ", [0, 0, 0], program);
+    let to = form(rt, &mut text, at, b"$\n", [0, 0, 0], words);
+    complain(rt, &text, to);
 }
 
 // Writes what stands on the page to standard error.
-pub fn complain(page: &[u8; BYTES], at: usize) {
-    io::write_all(STDERR_FILENO, front(page, at));
+pub fn complain(rt: &impl Complaints, page: &[u8; BYTES], at: usize) {
+    rt.complaint(front(page, at));
 }
 
 // A text by its pattern: `@` in it stands for the next of the numbers, `%` for the bytes in hex, `$` for the bytes as a
 // name, and every other byte for itself. One call in the place of many costs a check far less.
 pub fn form(
+    rt: &impl Print,
     page: &mut [u8; BYTES],
     at: usize,
     pattern: &[u8],
@@ -112,7 +129,7 @@ pub fn form(
     let mut i = 0;
     while i < pattern.len() {
         let sign = pattern[i];
-        n = sign_put(page, n, sign, nth(numbers, k), bytes);
+        n = sign_put(rt, page, n, sign, nth(numbers, k), bytes);
         k = behind(k, sign);
         i += 1;
     }
@@ -120,16 +137,29 @@ pub fn form(
 }
 
 // The same for a pattern that asks for no bytes.
-pub fn numbered(page: &mut [u8; BYTES], at: usize, pattern: &[u8], numbers: [usize; 3]) -> usize {
-    form(page, at, pattern, numbers, &pattern[..0])
+pub fn numbered(
+    rt: &impl Print,
+    page: &mut [u8; BYTES],
+    at: usize,
+    pattern: &[u8],
+    numbers: [usize; 3],
+) -> usize {
+    form(rt, page, at, pattern, numbers, &pattern[..0])
 }
 
-fn sign_put(page: &mut [u8; BYTES], at: usize, sign: u8, number: usize, bytes: &[u8]) -> usize {
+fn sign_put(
+    rt: &impl Print,
+    page: &mut [u8; BYTES],
+    at: usize,
+    sign: u8,
+    number: usize,
+    bytes: &[u8],
+) -> usize {
     match sign {
-        b'@' => decimal(page, at, number),
-        b'%' => hex(page, at, bytes),
-        b'$' => name(page, at, bytes),
-        _ => byte(page, at, sign),
+        b'@' => decimal(rt, page, at, number),
+        b'%' => hex(rt, page, at, bytes),
+        b'$' => name(rt, page, at, bytes),
+        _ => byte(rt, page, at, sign),
     }
 }
 
@@ -148,11 +178,11 @@ fn behind(k: usize, sign: u8) -> usize {
 }
 
 // A name as it was given, but for `?` in the place of each control byte: it stays on its line.
-pub fn name(page: &mut [u8; BYTES], at: usize, text: &[u8]) -> usize {
+pub fn name(rt: &impl Print, page: &mut [u8; BYTES], at: usize, text: &[u8]) -> usize {
     let mut n = at;
     let mut i = 0;
     while i < text.len() {
-        n = byte(page, n, plain(text[i]));
+        n = byte(rt, page, n, plain(text[i]));
         i += 1;
     }
     n
@@ -162,52 +192,52 @@ fn plain(b: u8) -> u8 {
     if b < 32 || b == 127 { b'?' } else { b }
 }
 
-pub fn decimal(page: &mut [u8; BYTES], at: usize, number: usize) -> usize {
+pub fn decimal(rt: &impl Print, page: &mut [u8; BYTES], at: usize, number: usize) -> usize {
     let mut digits = [0u8; 20];
     let k = io::decimal(number as u64, &mut digits);
-    word(page, at, &digits[..k])
+    word(rt, page, at, &digits[..k])
 }
 
 // Bytes in lower-case hex, `-` for none.
-pub fn hex(page: &mut [u8; BYTES], at: usize, bytes: &[u8]) -> usize {
+pub fn hex(rt: &impl Print, page: &mut [u8; BYTES], at: usize, bytes: &[u8]) -> usize {
     if bytes.len() == 0 {
-        return byte(page, at, b'-');
+        return byte(rt, page, at, b'-');
     }
     let mut n = at;
     let mut i = 0;
     while i < bytes.len() {
-        n = octet(page, n, bytes[i]);
+        n = octet(rt, page, n, bytes[i]);
         i += 1;
     }
     n
 }
 
-fn octet(page: &mut [u8; BYTES], at: usize, b: u8) -> usize {
-    let n = byte(page, at, glyph(b / 16));
-    byte(page, n, glyph(b % 16))
+fn octet(rt: &impl Print, page: &mut [u8; BYTES], at: usize, b: u8) -> usize {
+    let n = byte(rt, page, at, glyph(b / 16));
+    byte(rt, page, n, glyph(b % 16))
 }
 
 // Numbers in decimal with a comma between two, `-` for none.
-pub fn list(page: &mut [u8; BYTES], at: usize, cells: &[u16]) -> usize {
+pub fn list(rt: &impl Print, page: &mut [u8; BYTES], at: usize, cells: &[u16]) -> usize {
     if cells.len() == 0 {
-        return byte(page, at, b'-');
+        return byte(rt, page, at, b'-');
     }
     let mut n = at;
     let mut i = 0;
     while i < cells.len() {
-        n = comma(page, n, i);
-        n = decimal(page, n, parts::cell(cells, i));
+        n = comma(rt, page, n, i);
+        n = decimal(rt, page, n, parts::cell(cells, i));
         i += 1;
     }
     n
 }
 
 // A comma before each but the first.
-fn comma(page: &mut [u8; BYTES], at: usize, i: usize) -> usize {
+fn comma(rt: &impl Print, page: &mut [u8; BYTES], at: usize, i: usize) -> usize {
     if i == 0 {
         return at;
     }
-    byte(page, at, b',')
+    byte(rt, page, at, b',')
 }
 
 fn glyph(digit: u8) -> u8

@@ -1,5 +1,7 @@
 // Parts of an area of bytes or of cells.
 #![tactic(auto)]
+
+pub mod scan;
 pub mod words;
 
 ghost use Rattle.std.specs.Prelude.{◌≡◌, ◌≤◌, ◌<◌, length};

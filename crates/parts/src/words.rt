@@ -1,5 +1,5 @@
 // Words that go by a number: each stands on a line of a text, and the lines are counted from 0.
-use bytes::scan;
+use crate::scan;
 
 // The line with a number; nothing behind the last.
 pub fn line(text: &[u8], number: usize) -> &[u8] {

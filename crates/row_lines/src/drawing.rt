@@ -4,6 +4,7 @@ ghost use Rattle.std.specs.Prelude.{◌≤◌, ◌<◌};
 ghost use Rattle.trees.specs.Rules.{max_nodes};
 
 use crate::{cutting, places, writing};
+use pages::Complaints;
 use tables::areas::Full;
 use tables::limits::Slip;
 
@@ -12,6 +13,7 @@ const LABEL: usize = 4;
 
 // Draws the tree of n rows on standard output; a slip has no more than 1,023.
 pub fn draw<'a>(
+    rt: &(impl Print + Complaints),
     n: usize,
     types: &[u16; Slip::MAX_NODES],
     counts: &[u16; Slip::MAX_NODES],
@@ -25,12 +27,15 @@ pub fn draw<'a>(
     let mut rows = [0u16; Slip::MAX_NODES];
     places::order(counts, n, &mut rows);
     let mut text = [0u8; pages::BYTES];
-    let to = lines(&mut text, n, &rows, types, counts, lengths, values, labels);
-    pages::close(&text, to, b"desk");
+    let to = lines(
+        rt, &mut text, n, &rows, types, counts, lengths, values, labels,
+    );
+    pages::close(rt, &text, to, b"desk");
 }
 
 // The lines of n rows, in the order that they are drawn in; answers how many bytes stand on the page.
 fn lines<'a>(
+    rt: &impl Print,
     text: &mut [u8; pages::BYTES],
     n: usize,
     rows: &[u16; Slip::MAX_NODES],
@@ -46,7 +51,7 @@ fn lines<'a>(
     let mut i = 0;
     while i < n {
         let row = cell(rows, i);
-        to = line(text, to, n, row, types, counts, lengths, values, labels);
+        to = line(rt, text, to, n, row, types, counts, lengths, values, labels);
         i += 1;
     }
     to
@@ -60,6 +65,7 @@ fn cell(column: &[u16; Slip::MAX_NODES], row: usize) -> usize
 
 // The line of a row.
 fn line<'a>(
+    rt: &impl Print,
     text: &mut [u8; pages::BYTES],
     from: usize,
     n: usize,
@@ -76,8 +82,8 @@ fn line<'a>(
     let count = cell(counts, row);
     let value = value_of(values, lengths, row);
     let label = label_of(labels, row, count, value);
-    let at = begun(text, from, depth, row, label);
-    told(text, at, row, depth, cell(types, row), count, value)
+    let at = begun(rt, text, from, depth, row, label);
+    told(rt, text, at, row, depth, cell(types, row), count, value)
 }
 
 fn value_of<'a>(
@@ -115,6 +121,7 @@ fn label_of<'a>(
 
 // The entry number and the label, behind two spaces for each node above.
 fn begun(
+    rt: &impl Print,
     text: &mut [u8; pages::BYTES],
     from: usize,
     depth: usize,
@@ -123,6 +130,7 @@ fn begun(
 ) -> usize {
     let pattern = b"                                @ % ";
     pages::form(
+        rt,
         text,
         from,
         parts::bytes(pattern, margin(depth), pattern.len()),
@@ -141,6 +149,7 @@ fn margin(depth: usize) -> usize {
 
 // What a node is.
 fn told(
+    rt: &impl Print,
     text: &mut [u8; pages::BYTES],
     from: usize,
     row: usize,
@@ -152,6 +161,7 @@ fn told(
     let n = cutting::cut(kind, value, cutting::room(row, depth, kind));
     let shape = shape(kind, count, value, n);
     writing::put(
+        rt,
         text,
         from,
         shape,

@@ -1,5 +1,6 @@
 // What is printed of a table's rows, a line each: the table as text, and its tree.
 #![tactic(auto)]
+
 mod cutting;
 pub mod drawing;
 mod places;

@@ -4,6 +4,7 @@ use tables::limits::Slip;
 
 // Answers how many bytes stand on the page.
 pub fn write(
+    rt: &impl Print,
     text: &mut [u8; pages::BYTES],
     types: &[u16],
     counts: &[u16],
@@ -17,7 +18,7 @@ pub fn write(
         let end = parts::end(values, start, parts::cell(lengths, row));
         let kind = parts::cell(types, row);
         let count = parts::cell(counts, row);
-        to = line(text, to, kind, count, parts::bytes(values, start, end));
+        to = line(rt, text, to, kind, count, parts::bytes(values, start, end));
         start = end;
         row += 1;
     }
@@ -25,6 +26,7 @@ pub fn write(
 }
 
 fn line(
+    rt: &impl Print,
     text: &mut [u8; pages::BYTES],
     from: usize,
     kind: usize,
@@ -32,6 +34,7 @@ fn line(
     value: &[u8],
 ) -> usize {
     put(
+        rt,
         text,
         from,
         shape(kind, count, value),
@@ -40,8 +43,14 @@ fn line(
     )
 }
 
-pub fn pair(text: &mut [u8; pages::BYTES], from: usize, kind: usize, value: &[u8]) -> usize {
-    put(text, from, paired(kind, value), kind, value)
+pub fn pair(
+    rt: &impl Print,
+    text: &mut [u8; pages::BYTES],
+    from: usize,
+    kind: usize,
+    value: &[u8],
+) -> usize {
+    put(rt, text, from, paired(kind, value), kind, value)
 }
 
 // The number in a row's line: how many children it has, or the type of a pair.
@@ -51,6 +60,7 @@ pub fn number(kind: usize, count: usize) -> usize {
 
 // A row by the number of its pattern: those of a tree, and then two that only the text has.
 pub fn put(
+    rt: &impl Print,
     text: &mut [u8; pages::BYTES],
     from: usize,
     shape: usize,
@@ -61,8 +71,8 @@ pub fn put(
         b"inner @\ngone\npair @ %\npair @ %...\npair @ $\npair @ $...\ngone %\npair @ % # $\n",
         shape,
     );
-    let to = pages::form(text, from, pattern, [number, 0, 0], value);
-    pages::byte(text, to, b'\n')
+    let to = pages::form(rt, text, from, pattern, [number, 0, 0], value);
+    pages::byte(rt, text, to, b'\n')
 }
 
 // The pattern of a row.

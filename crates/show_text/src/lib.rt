@@ -1,5 +1,6 @@
 // What `show` prints of a slip, as document 01 has it. The lines go behind the `from` bytes of a page.
 #![tactic(auto)]
+
 ghost use Rattle.slips.specs.Opening.{Counted};
 ghost use Rattle.trees.specs.Rules.{max_bytes, max_nodes};
 
@@ -9,20 +10,26 @@ use slips::{header, open};
 use tables::areas::Full;
 use tables::limits::Slip;
 
-pub fn slip(text: &mut [u8; pages::BYTES], from: usize, s: &[u8]) -> usize {
+pub fn slip(rt: &impl Print, text: &mut [u8; pages::BYTES], from: usize, s: &[u8]) -> usize {
     let h = header::header_of(s);
     if h.number != Refusal::ACCEPTED {
-        return refused(text, from, h.number, 0);
+        return refused(rt, text, from, h.number, 0);
     }
     let n = h.count;
-    opened(text, from, s, n)
+    opened(rt, text, from, s, n)
 }
 
-fn refused(text: &mut [u8; pages::BYTES], from: usize, number: usize, place: usize) -> usize {
-    pages::numbered(text, from, b"refused @ @\n", [number, place, 0])
+fn refused(
+    rt: &impl Print,
+    text: &mut [u8; pages::BYTES],
+    from: usize,
+    number: usize,
+    place: usize,
+) -> usize {
+    pages::numbered(rt, text, from, b"refused @ @\n", [number, place, 0])
 }
 
-fn opened(text: &mut [u8; pages::BYTES], from: usize, s: &[u8], n: usize) -> usize
+fn opened(rt: &impl Print, text: &mut [u8; pages::BYTES], from: usize, s: &[u8], n: usize) -> usize
     requires { Counted s.now n max_bytes max_nodes }
 {
     let mut types = [0u16; Slip::MAX_NODES];
@@ -41,20 +48,27 @@ fn opened(text: &mut [u8; pages::BYTES], from: usize, s: &[u8], n: usize) -> usi
     );
     let a = o.answer;
     if a.number != Refusal::ACCEPTED {
-        return refused(text, from, a.number, a.place);
+        return refused(rt, text, from, a.number, a.place);
     }
-    let at = heading(text, from, n, a);
-    pairs(text, at, parts::cells(&types, 0, n), &lengths, &values)
+    let at = heading(rt, text, from, n, a);
+    pairs(rt, text, at, parts::cells(&types, 0, n), &lengths, &values)
 }
 
-fn heading(text: &mut [u8; pages::BYTES], from: usize, nodes: usize, a: Answer) -> usize {
+fn heading(
+    rt: &impl Print,
+    text: &mut [u8; pages::BYTES],
+    from: usize,
+    nodes: usize,
+    a: Answer,
+) -> usize {
     let label = a.label;
     let numbers = [Slip::EDITION, nodes, a.blocks];
-    pages::form(text, from, b"slip @ @ @\nroot %\n", numbers, &label)
+    pages::form(rt, text, from, b"slip @ @ @\nroot %\n", numbers, &label)
 }
 
 // The pairs of type 2 or above, row after row.
 fn pairs(
+    rt: &impl Print,
     text: &mut [u8; pages::BYTES],
     from: usize,
     types: &[u16],
@@ -68,7 +82,7 @@ fn pairs(
         let kind = wide(types[row]);
         let end = parts::end(values, start, parts::cell(lengths, row));
         if Slip::FIRST_TEXT <= kind {
-            at = pair(text, at, kind, parts::bytes(values, start, end));
+            at = pair(rt, text, at, kind, parts::bytes(values, start, end));
         }
         start = end;
         row += 1;
@@ -76,8 +90,21 @@ fn pairs(
     at
 }
 
-fn pair(text: &mut [u8; pages::BYTES], from: usize, kind: usize, value: &[u8]) -> usize {
-    pages::form(text, from, b"pair @ @ %\n", [kind, value.len(), 0], value)
+fn pair(
+    rt: &impl Print,
+    text: &mut [u8; pages::BYTES],
+    from: usize,
+    kind: usize,
+    value: &[u8],
+) -> usize {
+    pages::form(
+        rt,
+        text,
+        from,
+        b"pair @ @ %\n",
+        [kind, value.len(), 0],
+        value,
+    )
 }
 
 fn wide(cell: u16) -> usize {

@@ -26,13 +26,6 @@ module _ {s : Stack} {i : ℕ} {e f : Entry} (q : e ≡ f) where
       → GrowAsks s f i kinds heights sizes work labels
   ready_as {kinds} {heights} {sizes} {work} {labels} p = subst (λ (x : Entry). GrowAsks s x i kinds heights sizes work labels) q p
 
-  pub grows_as :
-      {st : List Tag} {r : Stack} {labels kinds heights sizes work labels' : List ℕ}
-      → GrowGives Sha256.label st f i s r labels kinds heights sizes work labels'
-      → GrowGives Sha256.label st e i s r labels kinds heights sizes work labels'
-  grows_as {st} {r} {labels} {kinds} {heights} {sizes} {work} {labels'} g =
-      subst (λ (x : Entry). GrowGives Sha256.label st x i s r labels kinds heights sizes work labels') (sym q) g
-
 -- A leaf is pushed.
 module _ (s : Stack) (t : ℕ) (v : List ℕ) (i : ℕ) {kinds heights sizes work labels : List ℕ} (p : GrowAsks s (tip t v) i kinds heights sizes work labels) where
   pub leaf_room : PushAsks s t 1 v kinds heights sizes work
@@ -46,13 +39,6 @@ module _ (s : Stack) (t : ℕ) (v : List ℕ) (i : ℕ) {kinds heights sizes wor
         sizes_room = p.sizes_room;
         work_room = omega (arith, length_more p.st (record { kind = t; height = 1; text = v }), p.laid.full, p.work_room);
       }
-
-  pub leaf_grows :
-      (st : List Tag) {r : Stack} {kinds' heights' sizes' work' : List ℕ}
-      → Laid st s.depth s.top kinds heights sizes work
-      → PushGives s t 1 v r kinds heights sizes work kinds' heights' sizes' work'
-      → GrowGives Sha256.label st (tip t v) i s r labels kinds' heights' sizes' work' labels
-  leaf_grows st l q = record { laid = q.laid st l; blocks = omega (arith, q.blocks); labels_are = refl }
 
 -- An internal node takes the last `count`.
 module _ (s : Stack) (count i : ℕ) {kinds heights sizes work labels : List ℕ} (p : GrowAsks s (node count) i kinds heights sizes work labels) where
@@ -78,9 +64,6 @@ module _ (s : Stack) (count i : ℕ) {kinds heights sizes work labels : List ℕ
     pub prelabel_small : r.long < 2 ^ 32
     prelabel_small = omega (arith, parent_fits, p.small)
 
-    pub blocks_fit : {n : ℕ} → n ≡ blocks_of r.long → s.blocks + n < 2 ^ 64
-    blocks_fit e = omega (arith, parent_fits, p.small, p.counted)
-
     -- whatever stack lies in the areas
     module _ {st : List Tag} (l : Laid st s.depth s.top kinds heights sizes work) where
       long_is : r.long ≡ length (pieces (kids count st))
@@ -97,9 +80,6 @@ module _ (s : Stack) (count i : ℕ) {kinds heights sizes work labels : List ℕ
 
       label_whole : length r.label ≡ label_bytes
       label_whole = ap length label_is ∙ label_long (pieces (kids count st))
-
-    pub parent_label : length r.label ≡ label_bytes
-    parent_label = label_whole p.laid
 
     pub parent_room : (b : ℕ) → PushAsks (record { depth = s.depth - count; top = s.top - r.long; blocks = b }) 0 r.height r.label kinds heights sizes work
     parent_room b =

@@ -4,8 +4,7 @@ ghost use Rattle.trees.specs.Rules.{max_nodes};
 
 use crate::faults;
 use crate::faults::Fault;
-use bytes::scan;
-use parts::words;
+use parts::{scan, words};
 use tables::limits::Slip;
 
 // The longest text, in bytes.

@@ -1,11 +1,11 @@
-// The lines of standard input, asked for one after the other. What was read stands in one area, and a line stands there
+// The lines of an input, asked for one after the other. What was read stands in one area, and a line stands there
 // from `from` up to `to` until the next is asked for.
 ghost use Rattle.std.specs.Prelude.{◌≤◌, ◌<◌};
 ghost use Rattle.text_lines.specs.Input.{Stands, room};
 
 use crate::reading;
-use bytes::scan;
-use libc::STDIN_FILENO;
+use parts::scan;
+use std::io::Read;
 
 // The longest line that is handed out whole, in bytes: more than a request takes with two tables of 1,023 rows of 511
 // bytes.
@@ -14,7 +14,7 @@ pub const LINE: usize = 2200000;
 // A line that fills the area is handed out as far as it goes there, and the rest of it is passed over.
 pub const ROOM: usize = LINE + 1;
 
-#[derive(Drop)]
+#[derive(Clone, Copy)]
 pub struct Input {
     // Whether a line stands there, whether nothing comes behind it, and whether that is since a read failed.
     pub line: bool,
@@ -38,7 +38,7 @@ impl Input {
 
 // The next line. Where none is whole among what was read, none is handed out, and what follows is read for the call
 // after this one: whoever waits for answers gets them in between.
-pub fn next(r: Input, area: &mut [u8; ROOM]) -> Input
+pub fn next(source: &mut impl Read, r: Input, area: &mut [u8; ROOM]) -> Input
     requires { Stands r.from r.seen r.held }
     ensures { Stands result.from result.seen result.held }
 {
@@ -50,7 +50,7 @@ pub fn next(r: Input, area: &mut [u8; ROOM]) -> Input
     if rest == ROOM {
         return full();
     }
-    read(area, rest, r.skip)
+    read(source, area, rest, r.skip)
 }
 
 // Where the line after this one starts.
@@ -139,11 +139,11 @@ fn moved(area: &mut [u8; ROOM], from: usize, held: usize) -> usize
 }
 
 // Reads behind the front of a line. At the end of the input that front is a line too.
-fn read(area: &mut [u8; ROOM], rest: usize, skip: bool) -> Input
+fn read(source: &mut impl Read, area: &mut [u8; ROOM], rest: usize, skip: bool) -> Input
     requires { rest < room }
     ensures { Stands result.from result.seen result.held }
 {
-    let f = reading::more(STDIN_FILENO, area, rest);
+    let f = reading::more(source, area, rest);
     if rest < f.held {
         return waiting(0, rest, f.held, skip);
     }

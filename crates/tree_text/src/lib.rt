@@ -1,5 +1,6 @@
 // The tree of a slip as people draw it.
 #![tactic(auto)]
+
 ghost use Rattle.std.specs.Prelude.{◌≡◌};
 ghost use Rattle.sha256.specs.Sha256 as Sha256;
 ghost use Rattle.titles.specs.Compose.{composed_text};
@@ -9,6 +10,7 @@ ghost use Rattle.trees.specs.Rules.{max_bytes, max_nodes};
 
 use answers::Answer;
 use outcomes::Refusal;
+use pages::Complaints;
 use row_lines::drawing;
 use slips::open::Opened;
 use slips::{header, open};
@@ -16,7 +18,7 @@ use tables::areas::Full;
 use tables::limits::Slip;
 
 // Draws the tree of an accepted slip on standard output, and answers what the check answers.
-pub fn draw(s: &[u8]) -> Answer
+pub fn draw(rt: &(impl Print + Complaints), s: &[u8]) -> Answer
     ensures { result ≡ check_of Sha256.label composed_text s.now }
 {
     let h = header::header_of(s);
@@ -24,10 +26,10 @@ pub fn draw(s: &[u8]) -> Answer
         return answers::refused(h.number, 0);
     }
     let n = h.count;
-    opened(s, n)
+    opened(rt, s, n)
 }
 
-fn opened(s: &[u8], n: usize) -> Answer
+fn opened(rt: &(impl Print + Complaints), s: &[u8], n: usize) -> Answer
     requires { Counted s.now n max_bytes max_nodes }
     ensures { result ≡ body_of Sha256.label composed_text s.now }
 {
@@ -45,15 +47,14 @@ fn opened(s: &[u8], n: usize) -> Answer
         &mut values,
         &mut labels,
     );
-    let n = shown(o);
-    drawing::draw(n, &types, &counts, &lengths, &values, &labels);
+    let n = shown(&o);
+    drawing::draw(rt, n, &types, &counts, &lengths, &values, &labels);
     o.answer
 }
 
 // How many rows are drawn: none of a slip that was refused.
-fn shown(o: Opened) -> usize {
-    let a = o.answer;
-    if a.number != Refusal::ACCEPTED {
+fn shown(o: &Opened) -> usize {
+    if o.answer.number != Refusal::ACCEPTED {
         return 0;
     }
     o.rows
