@@ -1,5 +1,6 @@
 // Two slips held in one set of columns, the second's table behind the first's.
 #![tactic(auto)]
+
 ghost use Rattle.both_slips.specs.Clauses.{areas, BehindAsks, BehindGives, BothAsks, BothGives};
 
 use answers::Answer;
