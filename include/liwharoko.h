@@ -1,7 +1,7 @@
 /*
  * Slips of a library's deep store: check, pack, unpack, prune, join, look up, and compose titles.
  *
- * Link libliwharoko.a (`rt staticlib liwharoko`); it holds code for x86-64 Linux. Every function is proved to meet
+ * Link libliwharoko.a (`tools/proved liwharoko` makes it); it holds code for x86-64 Linux. Every function is proved to meet
  * the contract in crates/liwharoko/src/lib.rt, to stay inside what it is lent and to end, as long as the caller
  * keeps to this:
  *
