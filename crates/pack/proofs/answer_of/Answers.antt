@@ -11,7 +11,8 @@ use Rattle.answers.specs.declared.Answer.{Answer}
 use Rattle.pack.specs.declared.Fault.{Fault}
 use Rattle.answers.specs.Answers.{refused, taken}
 use Rattle.pack.specs.Pack.{rows_of, table_fault}
-use Rattle.pack.specs.PackLaws.{fault_told, values_few, answer_faulty, answer_long, answer_entry, answer_many, answer_roomless, answer_taken}
+use Rattle.pack.specs.PackLaws.{values_few, answer_faulty, answer_long, answer_entry, answer_many, answer_roomless, answer_taken}
+use Rattle.pack.proofs.FaultLaws.{fault_told}
 use Rattle.pack.proofs.answer_of.Goals as goal
 
 pub returns-then-f-ne-ACCEPTED : goal.returns-then-f-ne-ACCEPTED
