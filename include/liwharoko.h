@@ -1,8 +1,8 @@
 /*
  * Slips of a library's deep store: check, pack, unpack, prune, join, look up, and compose titles.
  *
- * Link libliwharoko.a (`tools/proved liwharoko` makes it); it holds code for x86-64 Linux. Every function is proved to meet
- * the contract in crates/liwharoko/src/lib.rt, to stay inside what it is lent and to end, as long as the caller
+ * Link libliwharoko.a (`tools/proved liwharoko` makes it); it holds code for x86-64 Linux. Every function is proved to
+ * meet the contract in crates/liwharoko/src/lib.rt, to stay inside what it is lent and to end, as long as the caller
  * keeps to this:
  *
  * - Each slice is two arguments: a pointer to the first element, then the number of elements (not bytes).

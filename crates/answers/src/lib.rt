@@ -1,5 +1,6 @@
 // What every call on slips answers, and what the answers to two slips come to.
 #![tactic(auto)]
+
 ghost use Rattle.std.specs.Prelude.{◌≡◌};
 ghost use Rattle.answers.specs.Answers as Answers;
 ghost use Rattle.answers.specs.Both as Both;

@@ -28,8 +28,8 @@ use Rattle.pack.specs.Pack.{answer_of, pack_of}
 use Rattle.unpack.specs.Unpack.{table_in, table_of, unpack_of}
 use Rattle.handing.specs.HandingLaws.{Room}
 use Rattle.slips.specs.SlipTrees.{SlipOf, check_complete, check_unique}
-use Rattle.pack.specs.PackTrees.{TableOf, tree_answer, pack_tree, pack_outcome, pack_sound, pack_unique}
-use Rattle.pack.specs.RoundTrips.{written, Again, written_checks, slip_again, table_again}
+use Rattle.pack.proofs.PackTrees.{TableOf, tree_answer, pack_tree, pack_outcome, pack_sound, pack_unique}
+use Rattle.pack.proofs.RoundTrips.{written, Again, written_checks, slip_again, table_again}
 use Rattle.slips.specs.SlipTree.{slip_tree}
 use Rattle.slips.specs.ByteTrees.{accepted_slip}
 use Rattle.prune.specs.Prune.{prune_of}

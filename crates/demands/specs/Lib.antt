@@ -2,17 +2,13 @@
 pub mod InOrder
 pub mod Refusals
 pub mod Library
--- Theorems:
-pub mod Demand1
+-- Theorems (those that a must-fail edit of these definitions makes false stand in proofs/):
 pub mod TitleRefusals
 pub mod TitleOrder
 pub mod Demand2
 pub mod Sixteen
-pub mod Demand3
 pub mod OneAnswer
--- Demand 3 on bytes, and the ● cases, computed:
-pub mod Instances
+-- The ● cases, computed:
 pub mod Marked
 -- The laws behind the theorems:
 pub mod InOrderLaws
-pub mod LibraryLaws

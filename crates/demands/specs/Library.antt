@@ -1,5 +1,5 @@
 -- A library that keeps a slip and joins each arrival to it: demand 3 over bytes.
-use Rattle.std.specs.Prelude.{ℕ, Bool, false, cond, ◌||◌, List, [], ◌∷◌, ◌++◌, ◌⊎◌, ◌≡◌, eqb, length, take}
+use Rattle.std.specs.Prelude.{ℕ, Bool, false, cond, ◌||◌, List, [], ◌∷◌, ◌++◌, ◌⊎◌, ◌≡◌, eqb, take}
 use Rattle.std.proofs.Math.Option.{some}
 use Rattle.lists.specs.Lists.{Below}
 use Rattle.trees.specs.Places.{Place, Fact, tells}

@@ -9,7 +9,7 @@ use Rattle.tables.specs.Tables.{Table, table_fits}
 use Rattle.sha256.specs.Sha256 as Sha256
 use Rattle.titles.specs.Compose.{composed_text}
 use Rattle.pack.specs.Pack.{pack_of}
-use Rattle.pack.specs.PackRefusals.{pack_unfit, unfit_packs}
+use Rattle.pack.proofs.PackRefusals.{pack_unfit, unfit_packs}
 use Rattle.lookup.specs.Lookup.{Nothing, held_in}
 use Rattle.lookup.specs.LookupLaws.{held_none, refused_none}
 

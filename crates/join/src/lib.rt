@@ -1,5 +1,6 @@
 // The join of two slips.
 #![tactic(auto)]
+
 ghost use Rattle.sha256.specs.Sha256 as Sha256;
 ghost use Rattle.titles.specs.Compose.{composed_text};
 ghost use Rattle.outcomes.specs.Outcome.{Leaves};

@@ -1,5 +1,6 @@
 // The join of two slips whose headers are taken.
 #![tactic(auto)]
+
 ghost use Rattle.std.specs.Prelude.{◌≡◌, ◌&&◌, ◌*◌, ◌≤◌, leb, length};
 ghost use Rattle.trees.specs.Rules.{max_bytes, max_nodes};
 ghost use Rattle.sha256.specs.Sha256 as Sha256;

@@ -1,5 +1,6 @@
 // The static library: each public call under a plain name, for C and Rust. include/liwharoko.h declares them.
 #![tactic(auto)]
+
 ghost use Rattle.std.specs.Prelude.{◌≡◌};
 ghost use Rattle.sha256.specs.Sha256 as Sha256;
 ghost use Rattle.outcomes.specs.Outcome.{Leaves};

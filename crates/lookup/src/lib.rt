@@ -1,5 +1,6 @@
 // The lookup of document 01: a value of a type in the first of two unpacked records, or else in the second.
 #![tactic(auto)]
+
 pub mod held;
 
 ghost use Rattle.std.specs.Prelude.{◌≡◌, ◌+◌, ◌≤◌, length};

@@ -2,9 +2,5 @@
 pub mod Pack
 -- What its parts give.
 pub mod Clauses
--- Theorems, packing and unpacking undo each other among them:
-pub mod PackTrees
-pub mod RoundTrips
-pub mod PackRefusals
--- The laws behind them:
+-- The laws of its tests, behind the theorems of proofs/:
 pub mod PackLaws

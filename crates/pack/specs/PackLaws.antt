@@ -1,14 +1,13 @@
 -- The packer's tests, one after the other.
 use Rattle.std.specs.Prelude.{ℕ, ◌+◌, ◌*◌, ◌/◌, ◌≤◌, ◌<◌, Bool, true, false, not, cond, List, [], ◌∷◌, ◌≡◌, refl, ltb, eqb, length}
-use Rattle.std.proofs.Common.{true≢false, ◌∙◌, arith}
+use Rattle.std.proofs.Common.{◌∙◌, arith}
 use Rattle.std.proofs.Math.Path.{sym, ap}
-use borrow.Author.Tests.{lt-ltb, le-ltb, ltb-false, eq-eqb, ne_eqb, eqb-true, eqb-false}
+use borrow.Author.Tests.{lt-ltb, le-ltb, ltb-false, eq-eqb, ne_eqb}
 use Rattle.trees.specs.Rules.{max_bytes}
 use Rattle.lists.specs.Lists.{all}
 use Rattle.trees.specs.Rows.{Entry, formed, Tag, Verdict, faulty, left, verdict}
 use Rattle.outcomes.specs.Refusals.{accepted, too_long, no_nodes, not_one_tree, no_room, bad_table}
-use Rattle.tables.specs.Tables.{Table, row_fits, first_bad, columns_fit, row_bad, area_fits, table_fits, sum, Formed}
-use Rattle.tables.specs.TablesLaws.{table_told}
+use Rattle.tables.specs.Tables.{Table, row_fits, first_bad, columns_fit, sum, Formed}
 use Rattle.codec.specs.Writing.{slip_of}
 use Rattle.tables.specs.Measure.{row_bits, rows_bits, table_bits}
 use Rattle.codec.specs.MeasureLaws.{slip_bytes_measured, node_bits, dangling_bits, pair_bits}
@@ -51,33 +50,6 @@ module _ (t : Table) where
             sym
             (rw
             (p, ne_eqb (length t.types) 0 q, le-ltb (bad_row t) (length t.types) r, eq-eqb (length t.values) (sum t.lengths) h))
-
--- 16 and a table that doesn't fit, 4 and no rows, or no refusal and a table that fits
-pub fault_cases : {C : Type 0} (t : Table) → ((table_fault t).number ≡ bad_table → table_fits t ≡ false → C)
-    → ((table_fault t).number ≡ no_nodes → length t.types ≡ 0 → C) → ((table_fault t).number ≡ accepted → table_fits t ≡ true → C) → C
-unfolding table_fault table_fits
-fault_cases {C} t f g h =
-    go (columns_fit t.types t.counts t.lengths) refl (eqb (length t.types) 0) refl (row_bad t) refl (area_fits t) refl
-  where
-    go : (columns : Bool) → columns_fit t.types t.counts t.lengths ≡ columns → (empty : Bool) → eqb (length t.types) 0 ≡ empty
-        → (row : Bool) → row_bad t ≡ row → (area : Bool) → area_fits t ≡ area → C
-    go false c empty z row r area a = f (rw c) (rw c)
-    go true c true z row r area a = g (rw (c, z)) (eqb-true (length t.types) 0 z)
-    go true c false z true r area a = f (rw (c, z, r)) (rw (c, r))
-    go true c false z false r false a = f (rw (c, z, r, a)) (rw (c, r, a))
-    go true c false z false r true a = h (rw (c, z, r, a)) (rw (c, r, a))
-
--- "A table that number 16 would refuse": where there are rows it is one that doesn't fit, and no other
-pub refused_unfit : (t : Table) → (table_fault t).number ≡ bad_table → table_fits t ≡ false
-refused_unfit t e = fault_cases t (λ n u. u) (λ n u. absurd (omega (arith, e, n))) (λ n u. absurd (omega (arith, e, n)))
-
-pub unfit_refused : (t : Table) → (length t.types ≡ 0 → ⊥) → table_fits t ≡ false → (table_fault t).number ≡ bad_table
-unfit_refused t some e = fault_cases t (λ n u. n) (λ n u. absurd (some u)) (λ n u. absurd (true≢false (sym u ∙ e)))
-
--- a table that is not refused has the form
-pub fault_told : (t : Table) → (table_fault t).number ≡ accepted → Formed t
-fault_told t e =
-    fault_cases t (λ n u. absurd (omega (arith, e, n))) (λ n u. absurd (omega (arith, e, n))) (λ n u. table_told t u)
 
 -- a row's bits hold its value
 row_holds : (t c l : ℕ) → row_fits t c l ≡ true → 8 * l ≤ row_bits t c l
@@ -168,21 +140,6 @@ rows_of_formed t f = table_formed 0 t.types t.counts t.lengths t.values (f.rows 
 -- equal answers have one number
 pub number_of : {a b : Answer} {k : ℕ} → a ≡ b → a.number ≡ k → b.number ≡ k
 number_of is e = sym (ap (λ (x : Answer). x.number) is) ∙ e
-
--- an answer is the form's refusal, 1, or what the entries are judged as
-pub answer_cases : (H : List ℕ → List ℕ) (composed : List ℕ → Bool) {C : Type 0} (t : Table) (room : ℕ)
-    → (((table_fault t).number ≡ accepted → ⊥) → answer_of H composed t room ≡ refused (table_fault t).number (table_fault t).place → C)
-    → (Formed t → answer_of H composed t room ≡ refused too_long 0 → C)
-    → (Formed t → length (slip_of (rows_of t)) ≤ max_bytes → answer_of H composed t room ≡ judged_as (rows_of t) room (verdict H composed (rows_of t)) → C)
-    → C
-unfolding answer_of
-answer_cases H composed {C} t room f g h = go (eqb (table_fault t).number accepted) refl (ltb max_bytes (length (slip_of (rows_of t)))) refl
-  where
-    go : (free : Bool) → eqb (table_fault t).number accepted ≡ free → (long : Bool) → ltb max_bytes (length (slip_of (rows_of t))) ≡ long → C
-    go false e long l = f (eqb-false (table_fault t).number accepted e) (rw e)
-    go true e true l = g (fault_told t (eqb-true (table_fault t).number accepted e)) (rw (e, l))
-    go true e false l =
-        h (fault_told t (eqb-true (table_fault t).number accepted e)) (ltb-false max_bytes (length (slip_of (rows_of t))) l) (rw (e, l))
 
 -- entries that are not refused are 9, 11 or taken
 pub judged_cases : {C : Type 0} (es : List Entry) (room : ℕ) (st : List Tag) (b : ℕ)

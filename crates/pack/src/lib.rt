@@ -1,5 +1,6 @@
 // A table packed into a slip.
 #![tactic(auto)]
+
 ghost use Rattle.std.specs.Prelude.{◌≡◌, ◌≤◌};
 ghost use Rattle.sha256.specs.Sha256 as Sha256;
 ghost use Rattle.titles.specs.Compose.{composed_text};

@@ -1,5 +1,6 @@
 // A slip unpacked into the four buffers of a table.
 #![tactic(auto)]
+
 ghost use Rattle.sha256.specs.Sha256 as Sha256;
 ghost use Rattle.titles.specs.Compose.{composed_text};
 ghost use Rattle.trees.specs.Rules.{max_bytes, max_nodes};

@@ -13,14 +13,13 @@ use Rattle.prune_rows.proofs.Marking.{Walked, walked_none, walked_more, owed_low
 use Rattle.prune_rows.proofs.marks.mark_rows.Goals as goal
 
 pub loop-i-init : goal.loop-i-init
-loop-i-init c =
-    (
-      omega arith,
-      refl,
-      omega arith,
-      before_all c.args.counts.now c.args.list.now c.requires.2,
-      walked_none (named c.args.list.now) c.args.counts.now c.args.marks.now,
-    )
+loop-i-init c = (
+  omega arith,
+  refl,
+  omega arith,
+  before_all c.args.counts.now c.args.list.now c.requires.2,
+  walked_none (named c.args.list.now) c.args.counts.now c.args.marks.now,
+)
 
 pub loop-i-preserved : goal.loop-i-preserved
 loop-i-preserved c =

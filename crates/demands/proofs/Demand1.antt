@@ -1,5 +1,5 @@
 -- Each answer of a call on slips is the first of the call's refusals that is given, at its place, and a refused call leaves every buffer.
-use Prim.Native.Nat.{ℕ, zero, suc, ◌+◌, ◌*◌, ◌-◌, ◌≤◌, ◌<◌}
+use Prim.Native.Nat.{ℕ, zero, suc, ◌+◌, ◌*◌, ◌≤◌, ◌<◌}
 use Rattle.std.proofs.Math.Bool.{Bool, true, true≢false}
 use Rattle.std.specs.Prelude.{false, not, cond, ◌&&◌, ◌||◌, ◌⊎◌, ◌≡◌, ltb, leb, eqb, get_or}
 use Rattle.std.proofs.lemmas.Bool.{false≢true}

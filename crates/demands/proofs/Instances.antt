@@ -18,7 +18,7 @@ use Rattle.join.specs.Join.{join_of}
 use Rattle.trees.specs.Examples.{length_label}
 use Rattle.label_cases.specs.Values.{bytes, output}
 use Rattle.demands.specs.Library.{Arrival, start, Reached, misfits, clashes, ever, Ours, copy, Shown, Same}
-use Rattle.demands.specs.Demand3.{Reaches, demand_3, shown_14}
+use Rattle.demands.proofs.Demand3.{Reaches, demand_3, shown_14}
 
 -- the slip of n bytes that a number writes arrives, with room for 86
 abbrev arrives : ℕ → ℕ → Arrival

@@ -14,7 +14,8 @@ use Rattle.answers.specs.declared.Answer.{Answer}
 use Rattle.answers.specs.Answers.{refused}
 use Rattle.slips.specs.SlipRefusals.{none_left, scattered_tags}
 use Rattle.pack.specs.Pack.{rows_of, table_fault, judged_as, answer_of}
-use Rattle.pack.specs.PackLaws.{fault_cases, refused_unfit, unfit_refused, rows_of_formed, answer_cases, judged_cases, number_of, answer_faulty}
+use Rattle.pack.specs.PackLaws.{rows_of_formed, judged_cases, number_of, answer_faulty}
+use Rattle.pack.proofs.FaultLaws.{fault_cases, refused_unfit, unfit_refused, answer_cases}
 
 -- the form's refusals are 16 and 4
 other_fault : (t : Table) (k : ℕ) → children_missing ≤ k → k ≤ not_one_tree → (table_fault t).number ≡ k → ⊥

@@ -28,7 +28,8 @@ use Rattle.tables.specs.Cells.{type_cell, count_cell, length_cell, value_cell, v
 use Rattle.unpack.specs.Unpack.{table_of}
 use Rattle.unpack.specs.CellsLaws.{table_back}
 use Rattle.pack.specs.Pack.{rows_of, bad_row, table_fault, judged_as, answer_of, pack_of}
-use Rattle.pack.specs.PackLaws.{fault_columns, fault_free, rows_of_formed, answer_cases, judged_cases, number_of}
+use Rattle.pack.specs.PackLaws.{fault_columns, fault_free, rows_of_formed, judged_cases, number_of}
+use Rattle.pack.proofs.FaultLaws.{answer_cases}
 
 -- the row of a formed entry has the form, and is that entry's
 cells_fit : (e : Entry) → formed e ≡ true → row_fits (type_cell e) (count_cell e) (length_cell e) ≡ true

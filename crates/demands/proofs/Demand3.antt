@@ -6,7 +6,7 @@ use Rattle.std.specs.Prelude.{ℕ, ◌≤◌, Bool, true, false, List, ◌⊎◌
 use Rattle.std.proofs.Common.{true≢false, inl, inr, sym, ap, ◌∙◌, subst, subst₂}
 use Rattle.lists.specs.TestsLaws.{refuted}
 use Rattle.lists.specs.Lists.{Below}
-use Rattle.trees.specs.Nodes.{Node, label}
+use Rattle.trees.specs.Nodes.{Node}
 use Rattle.trees.specs.Rules.{label_bytes}
 use Rattle.trees.specs.Places.{Le, tells}
 use Rattle.trees.specs.Join.{Collision}
@@ -24,7 +24,7 @@ use Rattle.slips.specs.SlipTreeLaws.{slip_tree_lem}
 use Rattle.prune.specs.PruneTheorems.{PrunesTo, le_prunes}
 use Rattle.answers.specs.Answers.{clashed}
 use Rattle.demands.specs.Library.{Arrival, start, Reached, misfits, clashes, ever, Ours, copy, Shown, Same}
-use Rattle.demands.specs.LibraryLaws.{ever_there, read, fits, Stands, stepped, stands_bare, stands_run, misfit_run, clash_run, read_ours, read_roots, got_from, got_reached}
+use Rattle.demands.proofs.LibraryLaws.{ever_there, read, fits, Stands, stepped, stands_bare, stands_run, misfit_run, clash_run, read_ours, read_roots, got_from, got_reached}
 
 module _ (H : List ℕ → List ℕ) (composed : List ℕ → Bool) (l : List ℕ) (long : length l ≡ label_bytes) (bytes : Below 256 l) where
   -- every slip with the root label l that reached the one reached the other

@@ -31,7 +31,7 @@ use Rattle.handing.specs.HandingLaws.{Room, handed_out, handed_told}
 use Rattle.unpack.specs.Unpack.{table_in, table_of, unpack_of}
 use Rattle.unpack.specs.UnpackLaws.{in_over}
 use Rattle.pack.specs.Pack.{rows_of, answer_of, pack_of}
-use Rattle.pack.specs.PackTrees.{table_of_formed, TableOf, table_rows, pack_complete, pack_outcome, pack_sound}
+use Rattle.pack.proofs.PackTrees.{table_of_formed, TableOf, table_rows, pack_complete, pack_outcome, pack_sound}
 
 -- what an accepted call has written: "writes exactly its length"
 abbrev pub written : Output Answer → List ℕ
