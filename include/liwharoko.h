@@ -8,7 +8,7 @@
  * - Each slice is two arguments: a pointer to the first element, then the number of elements (not bytes).
  * - A pointer is valid for that many elements, aligned for them, and not NULL, even where the number is 0.
  * - A buffer that is written overlaps no other argument. What is only read may overlap.
- * - The stack has 512 KiB left: liwharoko_join takes the most, some 340 KB as measured, and the others up to 190 KB.
+ * - The stack has 512 KiB left: liwharoko_join takes the most, some 270 KB as measured, and the others up to 190 KB.
  *
  * Nothing is allocated or kept between calls, so calls may run at the same time in several threads.
  * A refused call writes nothing. An accepted one writes exactly what it reports; the rest of each buffer stays.
