@@ -15,6 +15,7 @@ pub fn cell(column: &[u16], i: usize) -> usize
 }
 
 // Whether a row is internal, dangling or a pair.
+#[tactic(auto, using(crate::proofs::Rows::internal_typed, crate::proofs::Rows::internal_long, crate::proofs::Rows::internal_is, crate::proofs::Rows::dangling_is, crate::proofs::Rows::pair_typed, crate::proofs::Rows::pair_is))]
 pub fn row_fits(t: usize, c: usize, l: usize) -> bool
     ensures { result ≡ row_fits t c l }
 {
