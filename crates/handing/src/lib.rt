@@ -45,6 +45,7 @@ fn lacks_room(
 }
 
 // The answer of an accepted slip with its table in the buffers, or 11; any other answer as it is.
+#[tactic(auto, using(crate::specs::HandingLaws::handed_refused))]
 pub fn hand_out(
     a: Answer,
     types: &[u16],

@@ -98,6 +98,7 @@ fn answer_of(types: &[u16], counts: &[u16], lengths: &[u16], values: &[u8], room
 }
 
 // Leaves a table into `out`: the slip of its tree, or the refusal.
+#[tactic(auto, using(crate::specs::PackLaws::pack_refused))]
 pub fn pack(types: &[u16], counts: &[u16], lengths: &[u16], values: &[u8], out: &mut [u8]) -> Answer
     ensures { Leaves (pack_of Sha256.label composed_text (table types.now counts.now lengths.now values.now) out.old) result out.new }
 {

@@ -1,3 +1,4 @@
 -- Laws that the functions' proofs cite.
 pub mod Settling
 pub mod Opened
+pub mod Headed

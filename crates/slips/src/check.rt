@@ -58,6 +58,7 @@ fn large(s: &[u8], n: usize) -> Answer
 }
 
 // Whether the bytes are a slip of one well-formed tree: its length, blocks and root label, or the refusal.
+#[tactic(auto, using(crate::proofs::Headed::header_refused))]
 pub fn check(s: &[u8]) -> Answer
     ensures { result ≡ check_of Sha256.label composed_text s.now }
 {

@@ -1,16 +1,13 @@
+use native.Mathlib.Omega.{arith}
 use mathlib.Core.Path.{refl, sym, ◌∙◌}
 use lib.ListN.{length}
 use Rattle.tables.specs.Tables.{table}
 use Rattle.handing.proofs.Copying.{Fits, fits_told, handed_lacking, handed_taken, copied_whole}
-use Rattle.handing.specs.HandingLaws.{handed_refused}
 use Rattle.handing.proofs.hand_out.Goals as goal
-
-pub returns-then-a-ne-ACCEPTED : goal.returns-then-a-ne-ACCEPTED
-returns-then-a-ne-ACCEPTED c = handed_refused _ _ _ _ _ _ _ _ c.if-a-ne-ACCEPTED.true refl refl refl refl refl
 
 pub returns-then-lacks_room : goal.returns-then-lacks_room
 returns-then-lacks_room c =
-    handed_lacking _ _ _ _ _ _ _ _ c.if-a-ne-ACCEPTED.false (sym c.lacks_room.ensures ∙ c.if-lacks_room.true) c.refused.ensures refl refl refl refl
+    handed_lacking _ _ _ _ _ _ _ _ (omega arith) (sym c.lacks_room.ensures ∙ c.if-lacks_room.true) c.refused.ensures refl refl refl refl
 
 pub copy_cells-requires : goal.copy_cells-requires
 copy_cells-requires c =
@@ -35,7 +32,7 @@ copy-requires c =
 pub returns : goal.returns
 returns c =
     let a = c.args in
-    handed_taken _ _ _ _ _ _ _ _ c.if-a-ne-ACCEPTED.false (sym c.lacks_room.ensures ∙ c.if-lacks_room.false) refl
+    handed_taken _ _ _ _ _ _ _ _ (omega arith) (sym c.lacks_room.ensures ∙ c.if-lacks_room.false) refl
     c.copy_cells.ensures
     c.copy_cells-2.ensures
     c.copy_cells-3.ensures
