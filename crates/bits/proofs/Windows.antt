@@ -11,7 +11,7 @@ use lib.ListN.{length, take, drop, get_or, set, length-drop, take-append-drop}
 use lib.Seq.{drop-drop, get_or-drop, take-suc-set, length-take-le}
 use Rattle.lists.specs.Lists.{Below}
 use Rattle.lists.specs.ListsLaws.{below_take, below_drop}
-use Rattle.lists.specs.PartsLaws.{part-within}
+use Rattle.lists.specs.PartsLaws.{part_within}
 use Rattle.bits.specs.Bits.{bits_in, bits_of, num_of, octets}
 use Rattle.bits.specs.FieldLaws.{num_append, num_field, num_part}
 use Rattle.bits.specs.ByteLaws.{length_bits_of, bits_of_append, drop_bits_of, octets_bits_of}
@@ -29,9 +29,9 @@ field_at s p q z i o n k e full within =
     let h : o + n ≤ length b = omega (arith, length_bits_of (drop i s)) in
     let g : o + n ≤ length (bits_of p) = omega (arith, length_bits_of p) in
     ap (λ (l : List ℕ). num_of (take n l)) (sym (drop-drop o (8 * i) (bits_of s)) ∙ ap (drop o) (drop_bits_of i s))
-    ∙ ap num_of (sym (part-within n o b (bits_of z) h))
+    ∙ ap num_of (sym (part_within n o b (bits_of z) h))
     ∙ ap (λ (l : List ℕ). num_of (take n (drop o l))) (sym (bits_of_append (drop i s) z) ∙ ap bits_of e ∙ bits_of_append p q)
-    ∙ ap num_of (part-within n o (bits_of p) (bits_of q) g)
+    ∙ ap num_of (part_within n o (bits_of p) (bits_of q) g)
     ∙ num_part o n k (bits_of p) (full ∙ sym (length_bits_of p))
 
 -- the number of one byte more

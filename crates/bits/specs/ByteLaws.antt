@@ -5,7 +5,7 @@ use Rattle.std.proofs.lemmas.List.{length-replicate, replicate-append-replicate}
 use Rattle.std.proofs.Math.Seq.{take-append-add, drop-append-add, drop-nil}
 use Rattle.lists.specs.Lists.{Below}
 use Rattle.lists.specs.ListsLaws.{below_cons, below_append, below_take, below_drop, below_replicate}
-use Rattle.lists.specs.PartsLaws.{take-replicate}
+use Rattle.lists.specs.PartsLaws.{take_replicate}
 use Rattle.bits.specs.Bits.{bits_in, bits_of, num_of, octets, packed}
 use Rattle.bits.specs.FieldLaws.{length_bits_in, below_bits_in, num_small, num_field, bits_num}
 
@@ -94,7 +94,7 @@ bits_of_packed bs h =
     (rw length-append (omega arith))
     ∙ ap (λ (k : ℕ). take k (bs ++ replicate 7 0)) e
     ∙ take-append-add bs (replicate 7 0) (padding (length bs))
-    ∙ ap (λ (l : List ℕ). bs ++ l) (take-replicate (padding (length bs)) 7 0 (omega arith))
+    ∙ ap (λ (l : List ℕ). bs ++ l) (take_replicate (padding (length bs)) 7 0 (omega arith))
 
 -- bytes whose bits are bs and fewer than 8 zeros are bs packed
 pub packed_is : (s bs : List ℕ) (k : ℕ) → Below 256 s → k < 8 → bits_of s ≡ bs ++ replicate k 0 → s ≡ packed bs

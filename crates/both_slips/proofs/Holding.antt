@@ -8,7 +8,7 @@ use lib.ListN.{length, take, drop, length-take}
 use lib.Seq.{length-take-le, take-take, drop_at, take_at, drop-length}
 use mir.Syntax.{w64}
 use mir.Val.{Fits}
-use Rattle.lists.specs.PartsLaws.{drop-take}
+use Rattle.lists.specs.PartsLaws.{drop_take}
 use Rattle.trees.specs.Nodes.{Node, label}
 use Rattle.trees.specs.Rules.{label_bytes}
 use Rattle.outcomes.specs.Refusals.{accepted}
@@ -145,9 +145,9 @@ holds_kept H n ts cs ls vs bs ws zs h v b =
 
     label_kept : (i : ℕ) → i < length ts → take label_bytes (drop (label_bytes * i) zs) ≡ take label_bytes (drop (label_bytes * i) bs)
     label_kept i q =
-        sym (drop-take (label_bytes * i) label_bytes zs)
+        sym (drop_take (label_bytes * i) label_bytes zs)
         ∙ ap (drop (label_bytes * i)) (front_part (label_bytes * length ts) zs bs b (label_bytes * i + label_bytes) (omega (arith, q)))
-        ∙ drop-take (label_bytes * i) label_bytes bs
+        ∙ drop_take (label_bytes * i) label_bytes bs
 
 -- the second tree's columns stand behind the first's
 module _ {s u : List ℕ} {a b : Opened} {types counts lengths area values labels : List ℕ} {y : Areas}
@@ -180,7 +180,7 @@ module _ {s u : List ℕ} {a b : Opened} {types counts lengths area values label
       record {
         one = rw (cut types y.types k.types_kept, cut counts y.counts k.counts_kept, cut lengths y.lengths k.lengths_kept) one;
         two =
-            rw (drop-take a.rows b.rows y.types, drop-take a.rows b.rows y.counts, drop-take a.rows b.rows y.lengths, used)
+            rw (drop_take a.rows b.rows y.types, drop_take a.rows b.rows y.counts, drop_take a.rows b.rows y.lengths, used)
             second.holds;
       }
 

@@ -6,14 +6,14 @@ use Prim.Native.Nat.{ℕ, ◌+◌, ◌≤◌, ◌<◌}
 use native.Mathlib.Omega.{arith}
 use lib.Dec.{eqb}
 use lib.ListN.{length, get_or, drop, drop_of_length-le}
-use Rattle.lists.specs.PartsLaws.{next-cons}
+use Rattle.lists.specs.PartsLaws.{next_cons}
 use Rattle.nfc.specs.Repertoire.{member}
 use Rattle.nfc.specs.Pairs.{Pair, pair, found, flat, pairs}
 use Rattle.characters.specs.Clauses.{sought}
 
 pub member_next : (s : List ℕ) (i c : ℕ) → i < length s → member (drop i s) c ≡ (eqb (get_or s i 0) c || member (drop (i + 1) s) c)
 unfolding member
-member_next s i c h = rw (next-cons s i 0 h)
+member_next s i c h = rw (next_cons s i 0 h)
 
 pub member_end : (s : List ℕ) (i c : ℕ) → length s ≤ i → member (drop i s) c ≡ false
 unfolding member
@@ -27,7 +27,7 @@ unfolding sought
 sought_next t i l m h =
     let two : (i + 1) + 1 ≡ i + 2 = omega arith in
     let three : (i + 2) + 1 ≡ i + 3 = omega arith in
-    rw (next-cons t i 0 (omega arith), next-cons t (i + 1) 0 (omega arith), two, next-cons t (i + 2) 0 h, three)
+    rw (next_cons t i 0 (omega arith), next_cons t (i + 1) 0 (omega arith), two, next_cons t (i + 2) 0 h, three)
 
 pub sought_end : (t : List ℕ) (i l m : ℕ) → length t ≤ i → sought (drop i t) l m ≡ 0
 unfolding sought

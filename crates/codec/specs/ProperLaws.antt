@@ -7,20 +7,20 @@ use Rattle.trees.specs.Rules.{max_type, max_value, max_children, label_bytes}
 use Rattle.lists.specs.TestsLaws.{and_both}
 use Rattle.trees.specs.Rows.{formed}
 use Rattle.tables.specs.Tables.{entry_of, entries, row_fits, first_bad, sum}
-use Rattle.codec.specs.TableLaws.{row-cases, form_cons}
+use Rattle.codec.specs.TableLaws.{row_cases, form_cons}
 use Rattle.codec.specs.Proper.{Bytes, Proper, AllProper}
 
 -- a row of the form is an entry of the form
 row_formed : (t c : ℕ) (v : List ℕ) → row_fits t c (length v) ≡ true → formed (entry_of t c v) ≡ true
 row_formed t (suc c) v f =
-    row-cases t (suc c) (length v) f
+    row_cases t (suc c) (length v) f
     (λ a b d g. and_both (leb 1 (suc c)) (leb (suc c) max_children) (le-leb 1 (suc c) d) (le-leb (suc c) max_children g))
     (λ a b d. absurd (omega arith))
     (λ a b d g. absurd (omega arith))
 row_formed zero zero v f =
-    row-cases 0 0 (length v) f (λ a b d g. absurd (omega arith)) (λ a b d. eq-eqb (length v) label_bytes d) (λ a b d g. absurd (omega arith))
+    row_cases 0 0 (length v) f (λ a b d g. absurd (omega arith)) (λ a b d. eq-eqb (length v) label_bytes d) (λ a b d g. absurd (omega arith))
 row_formed (suc t) zero v f =
-    row-cases (suc t) 0 (length v) f (λ a b d g. absurd (omega arith)) (λ a b d. absurd (omega arith))
+    row_cases (suc t) 0 (length v) f (λ a b d g. absurd (omega arith)) (λ a b d. absurd (omega arith))
     (λ a b d g. and_both (leb (suc t) max_type) (leb (length v) max_value) (le-leb (suc t) max_type b) (le-leb (length v) max_value g))
 
 row_bytes : (t c : ℕ) (v : List ℕ) → Below 256 v → Bytes (entry_of t c v)

@@ -10,10 +10,10 @@ use Rattle.tables.specs.Tables.{entry_of, entries, internal_row, dangling_row, p
 -- ---- the form of a row
 
 -- a row of the form is one of three
-pub row-cases {ℓ} : {A : Type ℓ} (t c l : ℕ) → row_fits t c l ≡ true → (t ≡ 0 → l ≡ 0 → 1 ≤ c → c ≤ max_children → A)
+pub row_cases {ℓ} : {A : Type ℓ} (t c l : ℕ) → row_fits t c l ≡ true → (t ≡ 0 → l ≡ 0 → 1 ≤ c → c ≤ max_children → A)
     → (t ≡ 0 → c ≡ 0 → l ≡ label_bytes → A) → (1 ≤ t → t ≤ max_type → c ≡ 0 → l ≤ max_value → A) → A
 unfolding row_fits
-row-cases t c l e internal dangling pair =
+row_cases t c l e internal dangling pair =
     or_cases (internal_row t c l || dangling_row t c l) (pair_row t c l) e
     (λ h.
     or_cases (internal_row t c l) (dangling_row t c l) h
@@ -58,7 +58,7 @@ pub record RowSmall (t c l : ℕ) : Type 0 where
 
 pub row_small : (t c l : ℕ) → row_fits t c l ≡ true → RowSmall t c l
 row_small t c l e =
-    row-cases t c l e
+    row_cases t c l e
     (λ a b d f. record { type = omega arith; count = f; length = omega arith })
     (λ a b d. record { type = omega arith; count = omega arith; length = omega arith })
     (λ a b d f. record { type = b; count = omega arith; length = f })

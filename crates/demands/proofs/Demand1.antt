@@ -14,7 +14,7 @@ use Rattle.outcomes.specs.ChainLaws.{chain_each}
 use Rattle.outcomes.specs.Chain.{chain}
 use Rattle.lists.specs.TestsLaws.{and_left, and_right, and_both}
 use Rattle.lists.specs.Lists.{all, same}
-use Rattle.lists.specs.ListsLaws.{all_append, same_true, same_false, cons_head, cons_tail, nil-cons}
+use Rattle.lists.specs.ListsLaws.{all_append, same_true, same_false, cons_head, cons_tail, nil_cons}
 use Rattle.trees.specs.Nodes.{Node, inner, type_of, height, heads, prelabel, blocks_of, label, blocks}
 use Rattle.trees.specs.Rules.{max_height, max_bytes, salted, text_fits}
 use Rattle.trees.specs.Places.{Place}
@@ -152,9 +152,9 @@ one_true H (n ∷ []) e = (n, refl, eqb-true (type_of n) 0 e)
 one_true H (n ∷ m ∷ ns) e = absurd (false≢true e)
 
 one_false : (H : List ℕ → List ℕ) (ns : List Node) → one_tree (map (tag_of H) ns) ≡ false → OneTree ns → ⊥
-one_false H [] e x = nil-cons x.1
+one_false H [] e x = nil_cons x.1
 one_false H (n ∷ []) e x = eqb-false (type_of n) 0 e (ap type_of (cons_head x.1) ∙ x.2)
-one_false H (n ∷ m ∷ ns) e x = nil-cons (sym (cons_tail x.1))
+one_false H (n ∷ m ∷ ns) e x = nil_cons (sym (cons_tail x.1))
 
 -- the numbers of the lists that grow with the input
 rows_listed : (f : ℕ → Bool) → f bad_table ≡ true → (i : ℕ) (ts cs ls : List ℕ) → all (λ (c : Case). f c.number) (row_cases i ts cs ls) ≡ true

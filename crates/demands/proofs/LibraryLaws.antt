@@ -9,7 +9,7 @@ use Rattle.std.proofs.Math.Path.{refl, sym, ap, subst, subst₂}
 use Rattle.std.proofs.Math.ListN.{length-append}
 use Rattle.lists.specs.Lists.{Below, same}
 use Rattle.lists.specs.TestsLaws.{and_left, and_right, and_both, or_first, or_second, or_cases}
-use Rattle.lists.specs.ListsLaws.{same_refl, same_true, none-some, some_inj}
+use Rattle.lists.specs.ListsLaws.{same_refl, same_true, none_some, some_inj}
 use Rattle.trees.specs.Nodes.{Node, size, label, blocks}
 use Rattle.trees.specs.Rules.{max_nodes, max_bytes, label_bytes}
 use Rattle.trees.specs.Places.{Place}
@@ -240,7 +240,7 @@ module _ (H : List ℕ → List ℕ) (composed : List ℕ → Bool) (l : List �
   read_ours a t e = go (ours a) refl e
     where
       go : (b : Bool) → ours a ≡ b → read_as b a ≡ some t → Ours H composed l a.slip × (slip_tree a.slip ≡ t)
-      go false d e = absurd (none-some e)
+      go false d e = absurd (none_some e)
       go true d e = (ours_is a d, some_inj e)
 
   -- the trees that the arrivals read as are those of the arrivals with the root label l

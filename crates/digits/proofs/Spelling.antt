@@ -7,7 +7,7 @@ use native.Mathlib.Omega.{arith}
 use borrow.Author.Tests.{lt-ltb, le-ltb}
 use lib.Dec.{ltb}
 use lib.ListN.{length, take, drop, get_or, set}
-use Rattle.lists.specs.PartsLaws.{next-cons, one_more}
+use Rattle.lists.specs.PartsLaws.{next_cons, one_more}
 use Rattle.digits.specs.Digits.{digit_of, is_hex, bytes_of, none, longer_by, reads, number_of}
 
 -- a test of one digit, and of two
@@ -19,8 +19,8 @@ module _ (l : List ℕ) (i : ℕ) (there : 2 * i + 1 < length l) where
   two_more : drop (2 * i) l ≡ get_or l (2 * i) 0 ∷ get_or l (2 * i + 1) 0 ∷ drop (2 * (i + 1)) l
   two_more =
       let next : 2 * i + 1 + 1 ≡ 2 * (i + 1) = omega arith in
-      next-cons l (2 * i) 0 (omega arith)
-      ∙ ap (λ (x : List ℕ). get_or l (2 * i) 0 ∷ x) (next-cons l (2 * i + 1) 0 there ∙ ap (λ (n : ℕ). get_or l (2 * i + 1) 0 ∷ drop n l) next)
+      next_cons l (2 * i) 0 (omega arith)
+      ∙ ap (λ (x : List ℕ). get_or l (2 * i) 0 ∷ x) (next_cons l (2 * i + 1) 0 there ∙ ap (λ (n : ℕ). get_or l (2 * i + 1) 0 ∷ drop n l) next)
 
   pub bad_first : 15 < digit_of (get_or l (2 * i) 0) → is_hex (drop (2 * i) l) ≡ false
   unfolding is_hex
@@ -76,7 +76,7 @@ pub reads_more :
     → reads n (drop i l) ≡ reads r (drop (i + 1) l)
 unfolding reads
 reads_more n l i d r there e f =
-    ap (reads n) (next-cons l i 0 there)
+    ap (reads n) (next_cons l i 0 there)
     ∙ ap (λ (x : ℕ). reads (longer_by n x) (drop (i + 1) l)) (sym e)
     ∙ ap (λ (x : ℕ). reads x (drop (i + 1) l)) (sym f)
 

@@ -12,7 +12,7 @@ use Rattle.trees.specs.Rows.{formed}
 use lib.ListN.{length, take, drop, get_or, drop_of_length-le}
 use lib.Seq.{drop-drop}
 use Rattle.tables.specs.Tables.{entry_of, entries, sum, internal_row, dangling_row, pair_row, row_fits, first_bad}
-use Rattle.lists.specs.PartsLaws.{next-cons}
+use Rattle.lists.specs.PartsLaws.{next_cons}
 
 -- the row i, and the rows behind it
 pub entries_next :
@@ -24,7 +24,7 @@ pub entries_next :
     ≡ entry_of (get_or types i 0) (get_or counts i 0) (take (get_or lengths i 0) (drop at values))
     ∷ entries (drop (i + 1) types) (drop (i + 1) counts) (drop (i + 1) lengths) (drop (at + get_or lengths i 0) values)
 entries_next types counts lengths values i at ht hc hl =
-    rw (next-cons types i 0 ht, next-cons counts i 0 hc, next-cons lengths i 0 hl, drop-drop (get_or lengths i 0) at values)
+    rw (next_cons types i 0 ht, next_cons counts i 0 hc, next_cons lengths i 0 hl, drop-drop (get_or lengths i 0) at values)
 
 -- behind the last row there are none
 pub entries_end : (types counts lengths values : List ℕ) (i at : ℕ) → length types ≤ i
@@ -108,4 +108,4 @@ row_small t c l e =
 -- the sum of the rows left
 pub sum_next : (l : List ℕ) (i : ℕ) → i < length l → sum (drop i l) ≡ get_or l i 0 + sum (drop (i + 1) l)
 unfolding sum
-sum_next l i h = ap sum (next-cons l i 0 h)
+sum_next l i h = ap sum (next_cons l i 0 h)

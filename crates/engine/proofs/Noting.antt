@@ -13,7 +13,7 @@ use Rattle.sha256.specs.Sha256 as Sha256
 use Rattle.sha256.specs.Blocks.{label_long}
 use Rattle.engine.specs.Engine.{last_text}
 use Rattle.stack.specs.Areas.{pieces, after, noted}
-use Rattle.lists.specs.PartsLaws.{part, front, same-part}
+use Rattle.lists.specs.PartsLaws.{part, front, same_part}
 
 -- the text on the top
 pub last_is : (st : List Tag) (g : Tag) → last_text (st ++ (g ∷ [])) ≡ g.text
@@ -43,7 +43,7 @@ module _ (area text : List ℕ) (at n : ℕ) (room : at + n ≤ length area) (lo
 
   apart : (b m : ℕ) → b + m ≤ at → take m (drop b (paste area at text n)) ≡ take m (drop b area)
   apart b m h =
-      same-part b m (paste area at text n) area
+      same_part b m (paste area at text n) area
       (front (paste area at text n) (b + m) at h front_kept ∙ take-take (b + m) at area h)
 
 -- the row k of the area holds the label of its node, if that is internal

@@ -13,7 +13,7 @@ use Rattle.trees.specs.Nodes.{Head}
 use Rattle.trees.specs.Rules.{salt_type, salt_bytes, is_salt, salt_long, salted}
 use Rattle.trees.specs.Rows.{Tag, head_of}
 use Rattle.faults.specs.Waiting.{kind_of, size_of}
-use Rattle.lists.specs.PartsLaws.{next-cons}
+use Rattle.lists.specs.PartsLaws.{next_cons}
 use Rattle.lists.specs.TestsLaws.{and_false, or_true}
 
 -- the types of the children behind the first: none is a salt, and without a salt before them none is above it
@@ -132,7 +132,7 @@ module _ (kinds : List ℕ) (i first : ℕ) {k : ℕ} (h : i < length kinds) (e 
   later_next :
       (salt : Bool) → later salt (drop i kinds) ≡ not (eqb k salt_type) && (salt || leb k salt_type) && later salt (drop (i + 1) kinds)
   unfolding later
-  later_next salt = rw (next-cons kinds i 0 h, e)
+  later_next salt = rw (next_cons kinds i 0 h, e)
 
   pub second_salt : k ≡ salt_type → later (eqb first salt_type) (drop i kinds) ≡ false
   second_salt q = later_next (eqb first salt_type) ∙ rw (eq-eqb k salt_type q)

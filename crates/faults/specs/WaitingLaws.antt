@@ -2,7 +2,7 @@
 use Rattle.std.specs.Prelude.{ℕ, ◌-◌, ◌≡◌, refl, List, [], ◌∷◌, map, length, take, drop}
 use Rattle.std.proofs.Common.{sym, ap, ◌∙◌}
 use Rattle.std.proofs.lemmas.List.{length-map}
-use Rattle.lists.specs.PartsLaws.{map_drop, tail-part}
+use Rattle.lists.specs.PartsLaws.{map_drop, tail_part}
 use Rattle.trees.specs.Rows.{Tag, highest_of, kids}
 use Rattle.faults.specs.Waiting.{kind_of, height_of, greatest, StackColumns}
 
@@ -22,4 +22,4 @@ pub kids_column :
     → w ≡ map f st
     → take (length w - (d - k)) (drop (d - k) w) ≡ map f (kids k st)
 kids_column st {w} k f d e p =
-    tail-part w (d - k) ∙ ap (drop (d - k)) p ∙ map_drop f (d - k) st ∙ ap (λ (n : ℕ). map f (drop (n - k) st)) (sym e)
+    tail_part w (d - k) ∙ ap (drop (d - k)) p ∙ map_drop f (d - k) st ∙ ap (λ (n : ℕ). map f (drop (n - k) st)) (sym e)

@@ -2,7 +2,7 @@
 use Rattle.std.specs.Prelude.{◌≡◌, refl, Bool, true, false, List, [], ◌∷◌, eqb, length}
 use Rattle.std.proofs.Common.{sym, ap, ◌∙◌, true≢false, arith, eqb-true, eq-eqb}
 use Rattle.lists.specs.Lists.{same, backwards}
-use Rattle.lists.specs.ListsLaws.{same_true, same_false, same_refl, backwards-inj, length-backwards}
+use Rattle.lists.specs.ListsLaws.{same_true, same_false, same_refl, backwards_inj, length_backwards}
 use Rattle.lists.specs.TestsLaws.{and_left, and_right, and_both}
 use Rattle.trees.specs.Nodes.{Head, prelabel}
 use Rattle.trees.proofs.NodesLaws.{prelabel_inj}
@@ -37,7 +37,7 @@ agree_same hs ks l = go (heads_agree (backwards hs) (backwards ks)) refl (same (
     go true e true f = refl
     go true e false f =
         absurd (same_false (prelabel hs) (prelabel ks) f
-        (ap prelabel (backwards-inj hs ks (agree_true (backwards hs) (backwards ks) (length-backwards hs ∙ l ∙ sym (length-backwards ks)) e))))
+        (ap prelabel (backwards_inj hs ks (agree_true (backwards hs) (backwards ks) (length_backwards hs ∙ l ∙ sym (length_backwards ks)) e))))
     go false e true f =
         absurd (true≢false
         (sym (agree_refl (backwards hs))

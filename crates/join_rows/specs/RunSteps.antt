@@ -1,7 +1,7 @@
 -- A run is walked from its last child; one with no child left joins to none.
 use Rattle.std.specs.Prelude.{◌≡◌, refl, Bool, true, false, cond, ◌||◌, List, [], ℕ, ◌+◌, ◌-◌, eqb, length, get_or}
 use Rattle.std.proofs.Common.{sym, ap, ◌∙◌, subst, subst₂, arith, eqb-true}
-use Rattle.lists.specs.ListsLaws.{append-cancel, nil-cons, at_front, at_back}
+use Rattle.lists.specs.ListsLaws.{append_cancel, nil_cons, at_front, at_back}
 use Rattle.lists.specs.TestsLaws.{or_cases}
 use Rattle.trees.specs.Nodes.{Node, Run, nil, cons, count, sizes, heads}
 use Rattle.trees.proofs.NodesLaws.{some_size}
@@ -83,7 +83,7 @@ module _ (H : List ℕ → List ℕ) (fs : List Face) (types counts lengths valu
   front_heads : (r s : Run) (n m : Node) → heads H (snoc r n) ≡ heads H (snoc s m) → heads H r ≡ heads H s
   front_heads r s n m e =
       let c : count (snoc r n) ≡ count (snoc s m) = same_count (snoc r n) (snoc s m) e in
-      (append-cancel (heads H r) (heads H s) _ _
+      (append_cancel (heads H r) (heads H s) _ _
       (omega (arith, length_heads H r, length_heads H s, count_snoc r n, count_snoc s m))
       (sym (heads_snoc H r n) ∙ e ∙ heads_snoc H s m)).0
 
@@ -110,7 +110,7 @@ module _ (H : List ℕ → List ℕ) (fs : List Face) (types counts lengths valu
     pub run_said : (k ≡ 0 → ⊥)
         → RunsSaid H fs types counts lengths values labels starts offsets reads e f k at p z (earlier_of front last)
     run_said o nil s x y = λ h g a b c d. absurd (o c)
-    run_said o (cons n r) nil x y = λ h g a b c d. absurd (nil-cons (sym d))
+    run_said o (cons n r) nil x y = λ h g a b c d. absurd (nil_cons (sym d))
     run_said o (cons n r) (cons m s) x y =
         let u = ended n r in
         let v = ended m s in

@@ -14,22 +14,22 @@ cons_head e = cc
 pub cons_tail {ℓ} : {A : Type ℓ} {x y : A} {xs ys : List A} → x ∷ xs ≡ y ∷ ys → xs ≡ ys
 cons_tail e = cc
 
-pub nil-cons {ℓ} : {A : Type ℓ} {x : A} {xs : List A} → [] ≡ x ∷ xs → ⊥
-nil-cons e = let z : ◌≡◌ {A = ℕ} 0 1 = cc in omega arith
+pub nil_cons {ℓ} : {A : Type ℓ} {x : A} {xs : List A} → [] ≡ x ∷ xs → ⊥
+nil_cons e = let z : ◌≡◌ {A = ℕ} 0 1 = cc in omega arith
 
 pub some_inj {ℓ} : {A : Type ℓ} {x y : A} → some x ≡ some y → x ≡ y
 some_inj e = cc
 
-pub none-some {ℓ} : {A : Type ℓ} {x : A} → none ≡ some x → ⊥
-none-some e = let z : ◌≡◌ {A = ℕ} 0 1 = cc in omega arith
+pub none_some {ℓ} : {A : Type ℓ} {x : A} → none ≡ some x → ⊥
+none_some e = let z : ◌≡◌ {A = ℕ} 0 1 = cc in omega arith
 
 -- where two lists are equal and begin with parts of one length, these parts are equal, and so is what follows them
-pub append-cancel {ℓ} : {A : Type ℓ} (a b c d : List A) → length a ≡ length b → a ++ c ≡ b ++ d → (a ≡ b) × (c ≡ d)
-append-cancel [] [] c d l e = (refl, e)
-append-cancel [] (y ∷ b) c d l e = absurd (omega arith)
-append-cancel (x ∷ a) [] c d l e = absurd (omega arith)
-append-cancel (x ∷ a) (y ∷ b) c d l e =
-    let r : (a ≡ b) × (c ≡ d) = append-cancel a b c d (omega arith) (cons_tail e) in
+pub append_cancel {ℓ} : {A : Type ℓ} (a b c d : List A) → length a ≡ length b → a ++ c ≡ b ++ d → (a ≡ b) × (c ≡ d)
+append_cancel [] [] c d l e = (refl, e)
+append_cancel [] (y ∷ b) c d l e = absurd (omega arith)
+append_cancel (x ∷ a) [] c d l e = absurd (omega arith)
+append_cancel (x ∷ a) (y ∷ b) c d l e =
+    let r : (a ≡ b) × (c ≡ d) = append_cancel a b c d (omega arith) (cons_tail e) in
     (λ i. cons_head e i ∷ r.0 i, r.1)
 
 -- it passes at every element of two lists, so of both end to end
@@ -39,10 +39,10 @@ all_append f (a ∷ x) y e g =
     and_both (f a) (all f (x ++ y)) (and_left (f a) (all f x) e) (all_append f x y (and_right (f a) (all f x) e) g)
 
 -- and at every index
-pub all-at {ℓ} : {A : Type ℓ} (f : A → Bool) (l : List A) (k : ℕ) (d : A) → all f l ≡ true → k < length l → f (get_or l k d) ≡ true
-all-at f [] k d e h = absurd (omega arith)
-all-at f (x ∷ l) zero d e h = and_left (f x) (all f l) e
-all-at f (x ∷ l) (suc k) d e h = all-at f l k d (and_right (f x) (all f l) e) (omega arith)
+pub all_at {ℓ} : {A : Type ℓ} (f : A → Bool) (l : List A) (k : ℕ) (d : A) → all f l ≡ true → k < length l → f (get_or l k d) ≡ true
+all_at f [] k d e h = absurd (omega arith)
+all_at f (x ∷ l) zero d e h = and_left (f x) (all f l) e
+all_at f (x ∷ l) (suc k) d e h = all_at f l k d (and_right (f x) (all f l) e) (omega arith)
 
 -- a test that every element passes is passed by every element of a part
 module _ {A : Type 0} (f : A → Bool) where
@@ -114,21 +114,21 @@ pub below_replicate : (n k : ℕ) {x : ℕ} → x < n → Below n (replicate k x
 below_replicate n zero h = λ i. omega arith
 below_replicate n (suc k) {x} h = below_cons n (replicate k x) h (below_replicate n k h)
 
-pub length-backwards {ℓ} : {A : Type ℓ} (x : List A) → length (backwards x) ≡ length x
-length-backwards [] = refl
-length-backwards (a ∷ x) = length-append (backwards x) (a ∷ []) ∙ (let h = length-backwards x in omega arith)
+pub length_backwards {ℓ} : {A : Type ℓ} (x : List A) → length (backwards x) ≡ length x
+length_backwards [] = refl
+length_backwards (a ∷ x) = length-append (backwards x) (a ∷ []) ∙ (let h = length_backwards x in omega arith)
 
 -- a list is known by its mirror image
-pub backwards-inj {ℓ} : {A : Type ℓ} (x y : List A) → backwards x ≡ backwards y → x ≡ y
-backwards-inj {A = A} x y e = go x y (sym (length-backwards x) ∙ ap length e ∙ length-backwards y) e
+pub backwards_inj {ℓ} : {A : Type ℓ} (x y : List A) → backwards x ≡ backwards y → x ≡ y
+backwards_inj {A = A} x y e = go x y (sym (length_backwards x) ∙ ap length e ∙ length_backwards y) e
   where
     go : (x y : List A) → length x ≡ length y → backwards x ≡ backwards y → x ≡ y
     go [] [] l e = refl
     go [] (b ∷ y) l e = absurd (omega arith)
     go (a ∷ x) [] l e = absurd (omega arith)
     go (a ∷ x) (b ∷ y) l e =
-        let k : length (backwards x) ≡ length (backwards y) = omega (arith, length-backwards x, length-backwards y) in
-        let p : (backwards x ≡ backwards y) × (a ∷ [] ≡ b ∷ []) = append-cancel (backwards x) (backwards y) (a ∷ []) (b ∷ []) k e in
+        let k : length (backwards x) ≡ length (backwards y) = omega (arith, length_backwards x, length_backwards y) in
+        let p : (backwards x ≡ backwards y) × (a ∷ [] ≡ b ∷ []) = append_cancel (backwards x) (backwards y) (a ∷ []) (b ∷ []) k e in
         let t : x ≡ y = go x y (omega arith) p.0 in
         let h : a ≡ b = cons_head p.1 in
         cc

@@ -18,36 +18,36 @@ pub filled {ℓ} :
 filled w i next x h e p = rw (e, take-suc-set w i x h, p)
 
 -- what is left of a list, at a number that has an element
-pub next-cons {ℓ} : {A : Type ℓ} (l : List A) (i : ℕ) (d : A) → i < length l → drop i l ≡ get_or l i d ∷ drop (i + 1) l
-next-cons l i d h = rw add-one (drop-cons l i d h)
+pub next_cons {ℓ} : {A : Type ℓ} (l : List A) (i : ℕ) (d : A) → i < length l → drop i l ≡ get_or l i d ∷ drop (i + 1) l
+next_cons l i d h = rw add-one (drop-cons l i d h)
 
 -- the part behind the first n, of a front part
-pub drop-take {ℓ} : {A : Type ℓ} (n m : ℕ) (l : List A) → drop n (take (n + m) l) ≡ take m (drop n l)
-drop-take zero m l = ap (λ (n : ℕ). take n l) (zero-add m)
-drop-take (suc n) m [] = rw (suc-add, take-nil)
-drop-take (suc n) m (x ∷ l) = rw suc-add (drop-take n m l)
+pub drop_take {ℓ} : {A : Type ℓ} (n m : ℕ) (l : List A) → drop n (take (n + m) l) ≡ take m (drop n l)
+drop_take zero m l = ap (λ (n : ℕ). take n l) (zero-add m)
+drop_take (suc n) m [] = rw (suc-add, take-nil)
+drop_take (suc n) m (x ∷ l) = rw suc-add (drop_take n m l)
 
 -- the part `[b..d]` of a list whose first d elements are l
 pub part {ℓ} : {A : Type ℓ} (w : List A) (b d : ℕ) {l : List A} → b ≤ d → take d w ≡ l → take (d - b) (drop b w) ≡ drop b l
-part w b d h e = sym (drop-take b (d - b) w) ∙ ap (λ (n : ℕ). drop b (take n w)) (add-sub_of_le h) ∙ ap (drop b) e
+part w b d h e = sym (drop_take b (d - b) w) ∙ ap (λ (n : ℕ). drop b (take n w)) (add-sub_of_le h) ∙ ap (drop b) e
 
 -- its first b elements
 pub front {ℓ} : {A : Type ℓ} (w : List A) (b d : ℕ) {l : List A} → b ≤ d → take d w ≡ l → take b w ≡ take b l
 front w b d h e = sym (take-take b d w h) ∙ ap (take b) e
 
 -- two lists that agree up to n + m agree in the m elements behind the first n
-pub same-part {ℓ} : {A : Type ℓ} (n m : ℕ) (x y : List A) → take (n + m) x ≡ take (n + m) y → take m (drop n x) ≡ take m (drop n y)
-same-part n m x y e = sym (drop-take n m x) ∙ ap (drop n) e ∙ drop-take n m y
+pub same_part {ℓ} : {A : Type ℓ} (n m : ℕ) (x y : List A) → take (n + m) x ≡ take (n + m) y → take m (drop n x) ≡ take m (drop n y)
+same_part n m x y e = sym (drop_take n m x) ∙ ap (drop n) e ∙ drop_take n m y
 
 -- they agree up to n
-pub same-front {ℓ} : {A : Type ℓ} (n m : ℕ) (x y : List A) → take (n + m) x ≡ take (n + m) y → take n x ≡ take n y
-same-front n m x y e =
+pub same_front {ℓ} : {A : Type ℓ} (n m : ℕ) (x y : List A) → take (n + m) x ≡ take (n + m) y → take n x ≡ take n y
+same_front n m x y e =
     let le : n ≤ n + m = omega arith in
     sym (take-take n (n + m) x le) ∙ ap (take n) e ∙ take-take n (n + m) y le
 
 -- `&l[n..]`
-pub tail-part {ℓ} : {A : Type ℓ} (l : List A) (n : ℕ) → take (length l - n) (drop n l) ≡ drop n l
-tail-part l n = take_all (length l - n) (drop n l) (omega (arith, length-drop n l))
+pub tail_part {ℓ} : {A : Type ℓ} (l : List A) (n : ℕ) → take (length l - n) (drop n l) ≡ drop n l
+tail_part l n = take_all (length l - n) (drop n l) (omega (arith, length-drop n l))
 
 -- A part of x, from `at` to its end, whose first elements were overwritten: what a copy into `&mut x[at..]` leaves.
 pub put_is :
@@ -60,14 +60,14 @@ put_is x part last at k e p =
     rw (p, take_all k (drop at x) all, drop_of_length-le (drop at x) all, drop-drop (length part) at x, append-nil, append_assoc)
 
 -- what follows a list has no part in what lies within it
-pub part-within {ℓ} : {A : Type ℓ} (n o : ℕ) (l z : List A) → o + n ≤ length l → take n (drop o (l ++ z)) ≡ take n (drop o l)
-part-within n o l z h =
+pub part_within {ℓ} : {A : Type ℓ} (n o : ℕ) (l z : List A) → o + n ≤ length l → take n (drop o (l ++ z)) ≡ take n (drop o l)
+part_within n o l z h =
     ap (take n) (drop-append-le o l z (omega arith)) ∙ take-append-le n (drop o l) z (simp length-drop (omega arith))
 
-pub take-replicate {ℓ} : {A : Type ℓ} (k n : ℕ) (x : A) → k ≤ n → take k (replicate n x) ≡ replicate k x
-take-replicate zero n x h = refl
-take-replicate (suc k) zero x h = absurd (omega arith)
-take-replicate (suc k) (suc n) x h = ap (λ (l : List _). x ∷ l) (take-replicate k n x (omega arith))
+pub take_replicate {ℓ} : {A : Type ℓ} (k n : ℕ) (x : A) → k ≤ n → take k (replicate n x) ≡ replicate k x
+take_replicate zero n x h = refl
+take_replicate (suc k) zero x h = absurd (omega arith)
+take_replicate (suc k) (suc n) x h = ap (λ (l : List _). x ∷ l) (take_replicate k n x (omega arith))
 
 -- a list copied over one of its length
 pub copied {ℓ} : {A : Type ℓ} (src dst part : List A) → length dst ≡ length src → part ≡ take (length src) src ++ drop (length src) dst → part ≡ src

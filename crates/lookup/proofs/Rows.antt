@@ -1,7 +1,7 @@
 -- The search of a type, one row at a time, in one table and in two.
 use Prim.Native.Nat.{ℕ, suc, ◌+◌, ◌≤◌, ◌<◌}
-use mathlib.Core.Path.{◌≡◌, refl, ap, ◌∙◌}
-use mathlib.Core.Bool.{true}
+use mathlib.Core.Path.{◌≡◌, refl, sym, ap, ◌∙◌}
+use mathlib.Core.Bool.{Bool, true, false}
 use mathlib.Core.List.{List, ◌∷◌}
 use native.Mathlib.Numerals.{add-one}
 use native.Mathlib.Omega.{arith}
@@ -9,9 +9,9 @@ use lib.ListN.{length, drop, get_or, drop_of_length-le}
 use lib.Seq.{drop-cons}
 use denote.Ref.{Bor}
 use borrow.Author.Tests.{eq-eqb, ne_eqb, le-leb}
-use Rattle.tables.specs.Tables.{Table, table_fits}
-use Rattle.lookup.specs.Lookup.{Spot, At, Nothing, first_of, held_in, held_by, or_else, lookup, areaOf, PartOf, Handed}
-use Rattle.lookup.specs.LookupLaws.{held_within}
+use Rattle.tables.specs.Tables.{Table, table, table_fits}
+use Rattle.lookup.specs.Lookup.{Spot, At, Nothing, first_of, held_in, held_by, or_else, lookup, area_of, PartOf, Handed}
+use Rattle.lookup.specs.LookupLaws.{held_within, refused_none}
 use Rattle.lookup.specs.Agreement.{found_within}
 use Rattle.lookup.specs.declared.held.Finding.{Finding}
 
@@ -39,6 +39,15 @@ pub held_searched : (kind : ℕ) (t : Table) → (kind ≡ 0 → ⊥) → table_
 unfolding held_in
 held_searched kind t k f = rw (le-leb 1 kind (omega (arith, k)), f)
 
+-- and any other table has nothing: what the test of the form says of an answer
+module _ (kind holder : ℕ) (types counts lengths values : List ℕ) {fits : Bool} (same : fits ≡ table_fits (table types counts lengths values)) where
+  pub searched_held : {f : Finding} → fits ≡ true → (kind ≡ 0 → ⊥) → f ≡ held_by holder (first_of kind 0 types lengths)
+      → f ≡ held_by holder (held_in kind (table types counts lengths values))
+  searched_held e k p = p ∙ ap (held_by holder) (sym (held_searched kind (table types counts lengths values) k (sym same ∙ e)))
+
+  pub unfit_held : fits ≡ false → record { holder = 0; start = 0; size = 0 } ≡ held_by holder (held_in kind (table types counts lengths values))
+  unfit_held e = ap (held_by holder) (sym (refused_none kind (table types counts lengths values) (sym same ∙ e)))
+
 -- what the first record holds, or else the second
 module _ {f : Finding} (kind : ℕ) (t u : Table) (e : f ≡ held_by 1 (held_in kind t)) where
   pub or_first : f.holder ≡ 1 → f ≡ lookup kind t u
@@ -58,7 +67,7 @@ module _ {f : Finding} (kind : ℕ) (t u : Table) (e : f ≡ held_by 1 (held_in 
 
 -- the part that was found, in the area of its holder
 module _ {f : Finding} (kind : ℕ) (t u : Table) (e : f ≡ lookup kind t u) where
-  within : f.start + f.size ≤ length (areaOf f.holder t.values u.values)
+  within : f.start + f.size ≤ length (area_of f.holder t.values u.values)
   within = rw e (found_within kind t u)
 
   pub in_first : (f.holder ≡ 2 → ⊥) → f.start + f.size ≤ length t.values

@@ -3,14 +3,14 @@ use Rattle.std.specs.Prelude.{ℕ, ◌+◌, ◌≤◌, ◌≡◌, refl, List, le
 use Rattle.std.proofs.Common.{sym, ◌∙◌, arith}
 use Rattle.std.specs.Borrow.{Bor}
 use Rattle.tables.specs.Tables.{Table}
-use Rattle.lookup.specs.Lookup.{Spot, At, Nothing, held_in, lookup, areaOf, PartOf, Handed}
+use Rattle.lookup.specs.Lookup.{Spot, At, Nothing, held_in, lookup, area_of, PartOf, Handed}
 use Rattle.lookup.specs.LookupLaws.{held_within}
 
 -- what is found lies within its area, so the part has all of its bytes
 pub found_within :
     (kind : ℕ) (t u : Table)
     → let f = lookup kind t u in
-    f.start + f.size ≤ length (areaOf f.holder t.values u.values)
+    f.start + f.size ≤ length (area_of f.holder t.values u.values)
 found_within kind t u = go (held_in kind t) refl (held_in kind u) refl
   where
     go :
@@ -19,7 +19,7 @@ found_within kind t u = go (held_in kind t) refl (held_in kind u) refl
         → (y : Spot)
         → held_in kind u ≡ y
         → let f = lookup kind t u in
-        f.start + f.size ≤ length (areaOf f.holder t.values u.values)
+        f.start + f.size ≤ length (area_of f.holder t.values u.values)
     go (At a n) e y g = rw e (held_within kind t a n e)
     go Nothing e (At a n) g = rw (e, g) (held_within kind u a n g)
     go Nothing e Nothing g = rw (e, g) (omega arith)

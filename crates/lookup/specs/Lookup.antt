@@ -36,8 +36,8 @@ abbrev pub lookup : ℕ → Table → Table → Finding
 lookup kind t u = or_else (held_in kind t) (held_in kind u)
 
 -- the area that a finding is a part of: the second's for holder 2, else the first's
-abbrev pub areaOf {ℓ} : {A : Type ℓ} → ℕ → A → A → A
-areaOf holder first second = cond (eqb holder 2) second first
+abbrev pub area_of {ℓ} : {A : Type ℓ} → ℕ → A → A → A
+area_of holder first second = cond (eqb holder 2) second first
 
 -- r is the part of `area` from `start` on, `size` bytes long: it lies there in memory, and has its bytes
 pub record PartOf (area : Bor (List ℕ)) (start size : ℕ) (r : Bor (List ℕ)) : Type 0 where
@@ -46,4 +46,4 @@ pub record PartOf (area : Bor (List ℕ)) (start size : ℕ) (r : Bor (List ℕ)
 
 -- r is the part that was found, of one of two areas
 abbrev pub Handed : Finding → Bor (List ℕ) → Bor (List ℕ) → Bor (List ℕ) → Type 0
-Handed f first second r = PartOf (areaOf f.holder first second) f.start f.size r
+Handed f first second r = PartOf (area_of f.holder first second) f.start f.size r

@@ -7,7 +7,7 @@ use Rattle.trees.specs.Rules.{max_type}
 use Rattle.trees.specs.Rows.{Entry, tip}
 use Rattle.lists.specs.TestsLaws.{and_left, and_right}
 use Rattle.tables.specs.Tables.{Table, table_fits, entries, sum, Formed}
-use Rattle.tables.specs.TablesLaws.{table_told, fits-cases, formed_row, sum_part, entries_at}
+use Rattle.tables.specs.TablesLaws.{table_told, fits_cases, formed_row, sum_part, entries_at}
 use Rattle.lookup.specs.Lookup.{Spot, At, Nothing, first_of, held_in}
 
 -- a spot is a part or nothing, and never both
@@ -139,7 +139,7 @@ above_none kind t h = go (held_in kind t) refl
     go (At a n) e =
         let k = held_told kind t a n e in
         let r = k.row in
-        absurd (fits-cases _ _ _ (formed_row t k.formed r.number r.typed_in)
+        absurd (fits_cases _ _ _ (formed_row t k.formed r.number r.typed_in)
         (λ z. omega (arith, r.typed, k.proper))
         (λ m z. omega (arith, r.typed)))
 
@@ -159,6 +159,6 @@ held_entry kind t a n e d =
     let r = k.row in
     let starts : sum (take r.number t.lengths) ≡ a = omega (arith, r.starts) in
     entries_at _ _ _ t.values k.formed.columns r.number d r.typed_in
-    ∙ fits-cases _ _ _ (formed_row t k.formed r.number r.typed_in)
+    ∙ fits_cases _ _ _ (formed_row t k.formed r.number r.typed_in)
     (λ z. absurd (omega (arith, r.typed, k.proper)))
     (λ m z. rw (z, r.typed, ← r.sized, starts))

@@ -41,6 +41,7 @@ fn first_of(kind: u16, holder: usize, types: &[u16], lengths: &[u16]) -> Finding
 }
 
 // What a table of the form holds of a type, in the record of that number; any other table, or of type 0, nothing.
+#[tactic(auto, using(crate::proofs::Rows::searched_held, crate::proofs::Rows::unfit_held))]
 pub fn held_in(
     kind: u16,
     holder: usize,

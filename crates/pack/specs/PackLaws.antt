@@ -12,7 +12,7 @@ use Rattle.codec.specs.Writing.{slip_of}
 use Rattle.tables.specs.Measure.{row_bits, rows_bits, table_bits}
 use Rattle.codec.specs.MeasureLaws.{slip_bytes_measured, node_bits, dangling_bits, pair_bits}
 use Rattle.codec.specs.ProperLaws.{table_formed}
-use Rattle.codec.specs.TableLaws.{row-cases, form_cons}
+use Rattle.codec.specs.TableLaws.{row_cases, form_cons}
 use Rattle.engine.specs.Engine.{one_tree, root_label, told}
 use Rattle.engine.specs.declared.judge.Judged.{Judged}
 use Rattle.answers.specs.declared.Answer.{Answer}
@@ -54,7 +54,7 @@ module _ (t : Table) where
 -- a row's bits hold its value
 row_holds : (t c l : ℕ) → row_fits t c l ≡ true → 8 * l ≤ row_bits t c l
 row_holds t c l f =
-    row-cases t c l f
+    row_cases t c l f
     (λ a b d g. omega (arith, node_bits t c l d))
     (λ a b d. omega (arith, dangling_bits t c l b a))
     (λ a b d g. omega (arith, pair_bits t c l d a))

@@ -7,7 +7,7 @@ use Rattle.std.proofs.lemmas.List.{length-map}
 use Rattle.std.proofs.Math.ListN.{get_or-map, get_or-eq_default}
 use Rattle.lists.specs.TestsLaws.{and_left}
 use Rattle.lists.specs.Lists.{all}
-use Rattle.lists.specs.ListsLaws.{all-at, none-some, some_inj}
+use Rattle.lists.specs.ListsLaws.{all_at, none_some, some_inj}
 use Rattle.trees.specs.Nodes.{Node, Run, inner, leaf, nil, cons, count, size, sizes}
 use Rattle.trees.specs.Rules.{max_children}
 use Rattle.trees.specs.Places.{Place, node_at, child_at, is_dangling, Le, cut}
@@ -38,7 +38,7 @@ module _ (n : Node) (form : all formed (rows n) ≡ true) where
   some_child : (p : Place) (r : Run) → node_at n p ≡ some (inner r) → 1 ≤ count r
   some_child p r e =
       let low : number n p < length (rows n) = omega (arith, number_low n p (inner r) e, length_rows n) in
-      let fits : formed (node (count r)) ≡ true = ap formed (sym (entry_at n p (inner r) e (tip 0 []))) ∙ all-at formed (rows n) (number n p) (tip 0 []) form low in
+      let fits : formed (node (count r)) ≡ true = ap formed (sym (entry_at n p (inner r) e (tip 0 []))) ∙ all_at formed (rows n) (number n p) (tip 0 []) form low in
       leb-true 1 (count r) (and_left (leb 1 (count r)) (leb (count r) max_children) fits)
 
   -- so a row has children exactly where it is that of an internal node
@@ -199,11 +199,11 @@ mutual
       named_append (numbers_in (λ i p. f (i ∷ p)) b r) (cond (f []) ((b + sizes r) ∷ []) []) (b + number_in r i p)
       ∙ rw (one_other (f []) (b + sizes r) (b + number_in r i p) (λ q. omega arith), or-false) (numbers_in_at (λ i p. f (i ∷ p)) b r i p m e)
   numbers_at f b (leaf t v) [] m e = absurd (leaf_inner (some_inj e))
-  numbers_at f b (leaf t v) (i ∷ p) m e = absurd (none-some e)
+  numbers_at f b (leaf t v) (i ∷ p) m e = absurd (none_some e)
 
   numbers_in_at : (f : ℕ → Place → Bool) (b : ℕ) (r : Run) (i : ℕ) (p : Place) (m : Run) → child_at r i p ≡ some (inner m)
       → named (numbers_in f b r) (b + number_in r i p) ≡ f i p
-  numbers_in_at f b nil i p m e = absurd (none-some e)
+  numbers_in_at f b nil i p m e = absurd (none_some e)
   numbers_in_at f b (cons n r) zero p m e =
       let l : number n p < size n = number_low n p (inner m) e in
       named_append (numbers (f 0) b n) (numbers_in (λ i p. f (suc i) p) (b + size n) r) (b + number n p)

@@ -8,7 +8,7 @@ use lib.Seq.{length-take-le, take-take}
 use Rattle.trees.specs.Rules.{max_value, max_children, max_nodes}
 use Rattle.trees.specs.Rows.{kids, below}
 use Rattle.tables.specs.Records.{TreeTable}
-use Rattle.lists.specs.PartsLaws.{next-cons, one_more, part}
+use Rattle.lists.specs.PartsLaws.{next_cons, one_more, part}
 use Rattle.send.specs.Blocks.{piece_size, row_blocks, blocks_from, Enough, BlocksAsks, BlocksGives}
 use Rattle.send.specs.BlocksLaws.{blocks_tree}
 use Rattle.send.specs.SafeLaws.{enough_tree, table_low}
@@ -50,9 +50,9 @@ module _ {counts lengths stack : List ℕ} {d total i c l : ℕ} (g : Going coun
       let t : TreeTable p.tree p.types counts lengths p.values = p.table in
       let low : (get_or counts i 0 ≤ max_children) × (get_or lengths i 0 ≤ max_value) =
       table_low p.tree p.types counts lengths p.values t i (omega arith) in
-      let e : drop i counts ≡ c ∷ drop (i + 1) counts = next-cons counts i 0 h ∙ ap (λ (x : ℕ). x ∷ drop (i + 1) counts) (sym ec) in
+      let e : drop i counts ≡ c ∷ drop (i + 1) counts = next_cons counts i 0 h ∙ ap (λ (x : ℕ). x ∷ drop (i + 1) counts) (sym ec) in
       let n : drop i lengths ≡ l ∷ drop (i + 1) lengths =
-      next-cons lengths i 0 (omega arith) ∙ ap (λ (x : ℕ). x ∷ drop (i + 1) lengths) (sym el) in
+      next_cons lengths i 0 (omega arith) ∙ ap (λ (x : ℕ). x ∷ drop (i + 1) lengths) (sym el) in
       let w : Enough (c ∷ drop (i + 1) counts) d = subst (λ (z : List ℕ). Enough z d) e g.enough in
       record {
         counts_next = e;

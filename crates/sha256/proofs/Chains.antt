@@ -7,7 +7,7 @@ use lib.ListN.{take, drop}
 use lib.Seq.{drop-drop}
 use Rattle.words.specs.Kind.{Kind, size}
 use Rattle.compression.specs.Compression.{chain}
-use Rattle.lists.specs.PartsLaws.{same-part, same-front}
+use Rattle.lists.specs.PartsLaws.{same_part, same_front}
 
 module _ (s : Kind) (h : List ℕ) where
   -- n blocks look at no more than n blocks
@@ -16,7 +16,7 @@ module _ (s : Kind) (h : List ℕ) where
   chain_agree zero x y e = refl
   chain_agree (suc n) x y e =
       let f : take (size s * n + size s) x ≡ take (size s * n + size s) y = rw mul-suc at e in
-      rw (chain_agree n x y (same-front (size s * n) (size s) x y f), same-part (size s * n) (size s) x y f)
+      rw (chain_agree n x y (same_front (size s * n) (size s) x y f), same_part (size s * n) (size s) x y f)
 
   -- the blocks of a text in two goes
   pub chain_add : (a b : ℕ) (x : List ℕ) → chain s h (a + b) x ≡ chain s (chain s h a x) b (drop (size s * a) x)

@@ -46,9 +46,9 @@ table_told t e =
     }
 
 -- a row of the form has type 0 or is a pair
-pub fits-cases {ℓ} : {C : Type ℓ} (t c l : ℕ) → row_fits t c l ≡ true → (t ≡ 0 → C) → (t ≤ max_type → c ≡ 0 → C) → C
+pub fits_cases {ℓ} : {C : Type ℓ} (t c l : ℕ) → row_fits t c l ≡ true → (t ≡ 0 → C) → (t ≤ max_type → c ≡ 0 → C) → C
 unfolding row_fits
-fits-cases t c l e f g =
+fits_cases t c l e f g =
     or_cases (internal_row t c l || dangling_row t c l) (pair_row t c l) e
     (λ h. or_cases (internal_row t c l) (dangling_row t c l) h
     (λ i. f (eqb-true t 0 (and_left _ (eqb l 0) (and_left _ (leb 1 c) (and_left _ (leb c max_children) i)))))

@@ -75,12 +75,12 @@ module _ (title out buffer : List ℕ) (r : Composed) (scanned : Scanned title r
         e
         refl
 
-    pub met-taken :
+    pub met_taken :
         (left : List ℕ)
         → r.length ≤ length out
         → left ≡ take (length (take r.length buffer)) (take r.length buffer) ++ drop (length (take r.length buffer)) out
         → Leaves (compose_of title out) r left
-    met-taken left room e =
+    met_taken left room e =
         met title out left r _
         (taken title (text title) out (le-ltb max_title (length title) under) all refl (rw size at room))
         whole

@@ -21,6 +21,7 @@ impl Title {
 }
 
 // Composes `title` into `out`. The text is made in a local buffer first: a refusal writes nothing.
+#[tactic(auto, using(crate::proofs::Answers::met_short))]
 pub fn compose(title: &[u8], out: &mut [u8]) -> Composed
     ensures { Leaves (compose_of title.now out.old) result out.new }
 {

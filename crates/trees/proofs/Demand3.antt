@@ -3,7 +3,7 @@ use Rattle.std.specs.Prelude.{◌≡◌, refl, ◌⊎◌, Bool, true, false, Lis
 use Rattle.std.proofs.Common.{sym, ◌∙◌, inl, inr, true≢false, arith}
 use Rattle.std.proofs.lemmas.Bool.{false≢true}
 use Rattle.std.proofs.Math.Option.{Option, some}
-use Rattle.lists.specs.ListsLaws.{none-some}
+use Rattle.lists.specs.ListsLaws.{none_some}
 use Rattle.trees.specs.Nodes.{Node, label}
 use Rattle.trees.specs.Rules.{label_bytes, WellFormed}
 use Rattle.trees.specs.Places.{Place, Fact, opened, tells, Le}
@@ -17,8 +17,8 @@ use Rattle.trees.proofs.EndsLaws.{Replied, ever_at, run_keeps, run_up, rooted_ru
 
 -- "with nothing disclosed"
 pub bare_tells : (H : List ℕ → List ℕ) (l : List ℕ) (p : Place) (x : Fact) → tells H (bare l) p ≡ some x → ⊥
-bare_tells H l [] x e = none-some e
-bare_tells H l (i ∷ p) x e = none-some e
+bare_tells H l [] x e = none_some e
+bare_tells H l (i ∷ p) x e = none_some e
 
 -- "The label of a dangling root is the label it carries": with 32 bytes the bare root is well-formed
 pub bare_well_formed : (H : List ℕ → List ℕ) (composed : List ℕ → Bool) (l : List ℕ) → length l ≡ label_bytes → WellFormed H composed (bare l)

@@ -2,7 +2,7 @@
 use Rattle.std.specs.Prelude.{◌≡◌, refl, Bool, true, false, cond, List, [], ℕ}
 use Rattle.std.proofs.Common.{sym, ap, ap₂, ◌∙◌}
 use Rattle.lists.specs.Lists.{same}
-use Rattle.lists.specs.ListsLaws.{same_refl, same_comm, same_true, cons_tail, nil-cons}
+use Rattle.lists.specs.ListsLaws.{same_refl, same_comm, same_true, cons_tail, nil_cons}
 use Rattle.trees.specs.Nodes.{Node, Run, inner, leaf, nil, cons, prelabel, heads}
 use Rattle.trees.proofs.NodesLaws.{prelabel_inj}
 use Rattle.trees.specs.Places.{Le}
@@ -40,8 +40,8 @@ module _ (H : List ℕ → List ℕ) where
 
     pub join_run_comm : (r s : Run) → heads H r ≡ heads H s → join_run H r s ≡ join_run H s r
     join_run_comm nil nil e = refl
-    join_run_comm nil (cons m s) e = absurd (nil-cons e)
-    join_run_comm (cons n r) nil e = absurd (nil-cons (sym e))
+    join_run_comm nil (cons m s) e = absurd (nil_cons e)
+    join_run_comm (cons n r) nil e = absurd (nil_cons (sym e))
     join_run_comm (cons n r) (cons m s) e =
         ap₂ both
         (join_comm n m (first_alike H n m r s e))

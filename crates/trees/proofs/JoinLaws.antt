@@ -3,7 +3,7 @@ use Rattle.std.specs.Prelude.{◌≡◌, refl, ◌⊎◌, Bool, true, false, con
 use Rattle.std.proofs.Common.{sym, ap, ◌∙◌, subst, inl, inr}
 use Rattle.std.proofs.Math.Option.{some}
 use Rattle.lists.specs.Lists.{same}
-use Rattle.lists.specs.ListsLaws.{same_true, same_false, cons_head, cons_tail, nil-cons}
+use Rattle.lists.specs.ListsLaws.{same_true, same_false, cons_head, cons_tail, nil_cons}
 use Rattle.trees.specs.Nodes.{Node, Run, inner, leaf, nil, cons, Head, prelabel, label, heads}
 use Rattle.trees.proofs.NodesLaws.{prelabel_inj}
 use Rattle.trees.specs.Places.{Place, Fact, opened, tells, tells_in, Le, LeIn, Shared, SharedIn}
@@ -92,8 +92,8 @@ module _ (H : List ℕ → List ℕ) where
 
     pub join_run_good : (r s : Run) → heads H r ≡ heads H s → GoodRun r s (join_run H r s)
     join_run_good nil nil e = record { left = tt; right = tt; least = λ u f g. f; exact = λ i p x q. inl q }
-    join_run_good nil (cons m s) e = absurd (nil-cons e)
-    join_run_good (cons n r) nil e = absurd (nil-cons (sym e))
+    join_run_good nil (cons m s) e = absurd (nil_cons e)
+    join_run_good (cons n r) nil e = absurd (nil_cons (sym e))
     join_run_good (cons n r) (cons m s) e =
         both_good n m r s (join H n m) (join_run H r s)
         (join_good n m (first_alike n m r s e))

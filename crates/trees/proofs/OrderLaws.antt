@@ -2,7 +2,7 @@
 use Rattle.std.specs.Prelude.{◌≡◌, refl, ◌↔◌, List, [], ◌∷◌, ℕ, zero, suc}
 use Rattle.std.proofs.Common.{sym, ap, ◌∙◌, subst, subst₂}
 use Rattle.std.proofs.Math.Option.{some}
-use Rattle.lists.specs.ListsLaws.{none-some, some_inj, cons_head, cons_tail, nil-cons}
+use Rattle.lists.specs.ListsLaws.{none_some, some_inj, cons_head, cons_tail, nil_cons}
 use Rattle.trees.specs.Nodes.{Node, Run, inner, leaf, nil, cons, type_of, Head, prelabel, label, heads}
 use Rattle.trees.proofs.NodesLaws.{prelabel_inj}
 use Rattle.trees.specs.Places.{Place, node_at, child_at, Fact, opened, leaf_tells, tells, tells_in, Le, LeIn}
@@ -81,11 +81,11 @@ module _ (H : List ℕ → List ℕ) where
     le_at (inner r) (leaf u m) p x h e = absurd h
     le_at (leaf t l) (inner s) [] x h e = (inner s, refl, subst (λ (z : Node). Le H z (inner s)) (some_inj e) h)
     le_at (leaf t l) (leaf u m) [] x h e = (leaf u m, refl, subst (λ (z : Node). Le H z (leaf u m)) (some_inj e) h)
-    le_at (leaf t l) b (i ∷ p) x h e = absurd (none-some e)
+    le_at (leaf t l) b (i ∷ p) x h e = absurd (none_some e)
 
     pub le_at_in : (r s : Run) (i : ℕ) (p : Place) (x : Node) → LeIn H r s → child_at r i p ≡ some x
         → (y : Node) × (child_at s i p ≡ some y) × Le H x y
-    le_at_in nil s i p x h e = absurd (none-some e)
+    le_at_in nil s i p x h e = absurd (none_some e)
     le_at_in (cons n r) nil i p x h e = absurd h
     le_at_in (cons n r) (cons m s) zero p x h e = le_at n m p x h.0 e
     le_at_in (cons n r) (cons m s) (suc i) p x h e = le_at_in r s i p x h.1 e
@@ -96,12 +96,12 @@ module _ (H : List ℕ → List ℕ) where
     le_tells (inner r) (inner s) [] x h e = ap (λ (hs : List Head). some (opened (prelabel hs))) (sym (le_heads r s h)) ∙ e
     le_tells (inner r) (inner s) (i ∷ p) x h e = le_tells_in r s i p x h e
     le_tells (inner r) (leaf u m) p x h e = absurd h
-    le_tells (leaf t l) (inner s) [] x h e = absurd (none-some (subst (λ (z : ℕ). leaf_tells z l ≡ some x) h.0 e))
+    le_tells (leaf t l) (inner s) [] x h e = absurd (none_some (subst (λ (z : ℕ). leaf_tells z l ≡ some x) h.0 e))
     le_tells (leaf t l) (leaf u m) [] x h e = subst₂ (λ (z : ℕ) (w : List ℕ). leaf_tells z w ≡ some x) h.0 h.1 e
-    le_tells (leaf t l) b (i ∷ p) x h e = absurd (none-some e)
+    le_tells (leaf t l) b (i ∷ p) x h e = absurd (none_some e)
 
     pub le_tells_in : (r s : Run) (i : ℕ) (p : Place) (x : Fact) → LeIn H r s → tells_in H r i p ≡ some x → tells_in H s i p ≡ some x
-    le_tells_in nil s i p x h e = absurd (none-some e)
+    le_tells_in nil s i p x h e = absurd (none_some e)
     le_tells_in (cons n r) nil i p x h e = absurd h
     le_tells_in (cons n r) (cons m s) zero p x h e = le_tells n m p x h.0 e
     le_tells_in (cons n r) (cons m s) (suc i) p x h e = le_tells_in r s i p x h.1 e
@@ -119,8 +119,8 @@ module _ (H : List ℕ → List ℕ) where
     pub tells_le_in : (r s : Run) → heads H r ≡ heads H s
         → ((i : ℕ) (p : Place) (x : Fact) → tells_in H r i p ≡ some x → tells_in H s i p ≡ some x) → LeIn H r s
     tells_le_in nil nil e h = tt
-    tells_le_in nil (cons m s) e h = absurd (nil-cons e)
-    tells_le_in (cons n r) nil e h = absurd (nil-cons (sym e))
+    tells_le_in nil (cons m s) e h = absurd (nil_cons e)
+    tells_le_in (cons n r) nil e h = absurd (nil_cons (sym e))
     tells_le_in (cons n r) (cons m s) e h = (
       tells_le n m (ap (λ (x : Head). x.kind) (cons_head e)) (ap (λ (x : Head). x.text) (cons_head e)) (λ p x. h 0 p x),
       tells_le_in r s (cons_tail e) (λ i p x. h (suc i) p x),

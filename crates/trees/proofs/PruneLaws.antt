@@ -6,7 +6,7 @@ use Rattle.std.proofs.Math.Option.{some}
 use Rattle.std.proofs.Math.Dec.{eqb-suc-suc}
 use Rattle.lists.specs.TestsLaws.{and_left, and_right, and_both}
 use Rattle.lists.specs.Lists.{same}
-use Rattle.lists.specs.ListsLaws.{same_true, none-some, some_inj}
+use Rattle.lists.specs.ListsLaws.{same_true, none_some, some_inj}
 use Rattle.trees.specs.Nodes.{Node, Run, inner, leaf, nil, cons, prelabel, label, heads}
 use Rattle.trees.specs.Places.{Place, node_at, child_at, is_dangling, stays, Le, LeIn, cut, cut_in, EqualBut, EqualButIn}
 use Rattle.trees.specs.PlacesLaws.{at_root, leaf_inner}
@@ -111,11 +111,11 @@ module _ (H : List ℕ → List ℕ) where
         ap (λ (b : Bool). node_at (cond b (leaf 0 (H (prelabel (heads H r)))) (inner (cut_in H (λ j q. f (j ∷ q)) r))) (i ∷ p)) off
         ∙ cut_in_stays (λ j q. f (j ∷ q)) r i p m e (and_right (not (f [])) (stays (λ q. f (i ∷ q)) p) k)
     cut_stays f (leaf t v) [] m e k = ap (λ (x : Node). some (cut H f x)) (some_inj e)
-    cut_stays f (leaf t v) (i ∷ p) m e k = absurd (none-some e)
+    cut_stays f (leaf t v) (i ∷ p) m e k = absurd (none_some e)
 
     pub cut_in_stays : (f : ℕ → Place → Bool) (r : Run) (i : ℕ) (p : Place) (m : Node) → child_at r i p ≡ some m → stays (f i) p ≡ true
         → child_at (cut_in H f r) i p ≡ some (cut H (λ q. f i (p ++ q)) m)
-    cut_in_stays f nil i p m e k = absurd (none-some e)
+    cut_in_stays f nil i p m e k = absurd (none_some e)
     cut_in_stays f (cons n r) zero p m e k = cut_stays (f 0) n p m e k
     cut_in_stays f (cons n r) (suc i) p m e k = cut_in_stays (λ j q. f (suc j) q) r i p m e k
 

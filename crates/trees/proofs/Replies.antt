@@ -2,7 +2,7 @@
 use Rattle.std.specs.Prelude.{◌≡◌, refl, ◌⊎◌, Bool, true, false, cond, List, ℕ}
 use Rattle.std.proofs.Common.{sym, ◌∙◌, subst, inl, inr, true≢false}
 use Rattle.std.proofs.Math.Option.{Option, none, some}
-use Rattle.lists.specs.ListsLaws.{none-some, some_inj}
+use Rattle.lists.specs.ListsLaws.{none_some, some_inj}
 use Rattle.trees.specs.Nodes.{Node}
 use Rattle.trees.specs.Places.{Place, Fact, tells, Le}
 use Rattle.trees.proofs.OrderLaws.{le_refl}
@@ -29,7 +29,7 @@ module _ (H : List ℕ → List ℕ) where
   -- an arrival that neither clashes nor lacks room is a pruning of the copy
   pub held_upper : (c : Node) (o : Option Node) (v : Reply) → Means c o v → is_shown v ≡ false → is_misfit v ≡ false
       → (t : Node) → o ≡ some t → Le H t (held c v)
-  held_upper c o passed m e f t q = absurd (none-some (sym m ∙ q))
+  held_upper c o passed m e f t q = absurd (none_some (sym m ∙ q))
   held_upper c o (took d) m e f t q = subst (λ (z : Node). Le H z d) (some_inj (sym m.1 ∙ q)) m.2.right
   held_upper c o misfit m e f t q = absurd (true≢false f)
   held_upper c o (shown p) m e f t q = absurd (true≢false e)

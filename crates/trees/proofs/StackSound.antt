@@ -5,7 +5,7 @@ use Rattle.std.proofs.Common.{sym, ap, ap₂, ◌∙◌, subst, subst₂, append
 use Rattle.std.proofs.lemmas.List.{map-append, length-map}
 use Rattle.lists.specs.TestsLaws.{and_left, and_right}
 use Rattle.lists.specs.Lists.{all}
-use Rattle.lists.specs.ListsLaws.{cons_head, cons_tail, nil-cons}
+use Rattle.lists.specs.ListsLaws.{cons_head, cons_tail, nil_cons}
 use Rattle.lists.specs.PartsLaws.{map_take, map_drop}
 use Rattle.trees.specs.Nodes.{Node, inner, leaf, height, highest, prelabel, heads, blocks_of, blocks}
 use Rattle.outcomes.specs.Refusals.{children_missing, not_composed}
@@ -140,7 +140,7 @@ module _ (H : List ℕ → List ℕ) (composed : List ℕ → Bool) where
     pub sum : blocks H tree ≡ b
 
   one_tree : (es : List Entry) (ns : List Node) (g : Tag) (b : ℕ) → Stands es ns (g ∷ []) b → Built es g b
-  one_tree es [] g b s = absurd (nil-cons (sym s.tags))
+  one_tree es [] g b s = absurd (nil_cons (sym s.tags))
   one_tree es (n ∷ []) g b s =
       record {
         tree = n;
@@ -149,7 +149,7 @@ module _ (H : List ℕ → List ℕ) (composed : List ℕ → Bool) where
         tag = sym (cons_head s.tags);
         sum = omega (arith, s.sum);
       }
-  one_tree es (n ∷ m ∷ ns) g b s = absurd (nil-cons (cons_tail s.tags))
+  one_tree es (n ∷ m ∷ ns) g b s = absurd (nil_cons (cons_tail s.tags))
 
   -- accepted entries that leave one waiting are the rows of one tree that keeps the rules
   pub sound_one : (es : List Entry) (g : Tag) (b : ℕ) → all formed es ≡ true → verdict H composed es ≡ left (g ∷ []) b → Built es g b

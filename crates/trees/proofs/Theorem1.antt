@@ -3,7 +3,7 @@ use Rattle.std.specs.Prelude.{◌≡◌, refl, ◌⊎◌, Bool, true, false, Lis
 use Rattle.std.proofs.Common.{sym, ap, subst, inl, inr}
 use Rattle.std.proofs.Math.Option.{some}
 use Rattle.lists.specs.Lists.{same}
-use Rattle.lists.specs.ListsLaws.{same_true, cons_tail, nil-cons}
+use Rattle.lists.specs.ListsLaws.{same_true, cons_tail, nil_cons}
 use Rattle.trees.specs.Nodes.{Node, Run, inner, leaf, nil, cons, prelabel, label, heads}
 use Rattle.trees.proofs.NodesLaws.{prelabel_inj}
 use Rattle.trees.specs.Places.{Place, node_at, child_at, opened, tells, tells_in, Le, LeIn, Shared, SharedIn}
@@ -57,8 +57,8 @@ module _ (H : List ℕ → List ℕ) where
 
     theorem_1_in : (r s : Run) → heads H r ≡ heads H s → RelationIn r s
     theorem_1_in nil nil e = pruned_in tt
-    theorem_1_in nil (cons m s) e = absurd (nil-cons e)
-    theorem_1_in (cons n r) nil e = absurd (nil-cons (sym e))
+    theorem_1_in nil (cons m s) e = absurd (nil_cons e)
+    theorem_1_in (cons n r) nil e = absurd (nil_cons (sym e))
     theorem_1_in (cons n r) (cons m s) e =
         related_run n m r s
         (theorem_1 n m (first_alike H n m r s e))

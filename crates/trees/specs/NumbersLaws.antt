@@ -3,7 +3,7 @@ use Rattle.std.specs.Prelude.{◌≡◌, refl, Bool, true, false, cond, List, []
 use Rattle.std.proofs.Common.{sym, ap, ap₂, ◌∙◌, subst, append_assoc, append-nil, arith, length-append, ltb-true, ltb-false}
 use Rattle.std.proofs.Math.Option.{some}
 use Rattle.std.proofs.lemmas.List.{get_or_at}
-use Rattle.lists.specs.ListsLaws.{none-some, some_inj}
+use Rattle.lists.specs.ListsLaws.{none_some, some_inj}
 use Rattle.trees.specs.Nodes.{Node, Run, inner, leaf, nil, cons, count, size, sizes, label}
 use Rattle.trees.specs.Places.{Place, node_at, child_at, cut, cut_in}
 use Rattle.trees.specs.Rows.{Entry, node, tip, rows, rows_in, last_row, number, number_in, pruned_rows, pruned_rows_in}
@@ -17,7 +17,7 @@ mutual
   number_low (leaf t v) p x e = omega arith
 
   pub number_in_low : (r : Run) (i : ℕ) (p : Place) (x : Node) → child_at r i p ≡ some x → number_in r i p < sizes r
-  number_in_low nil i p x e = absurd (none-some e)
+  number_in_low nil i p x e = absurd (none_some e)
   number_in_low (cons n r) zero p x e = let h : number n p < size n = number_low n p x e in omega arith
   number_in_low (cons n r) (suc i) p x e = let h : number_in r i p < sizes r = number_in_low r i p x e in omega arith
 
@@ -29,12 +29,12 @@ mutual
   number_inj (inner r) (i ∷ p) [] x y e f h = absurd (let k : number_in r i p < sizes r = number_in_low r i p x e in omega arith)
   number_inj (inner r) (i ∷ p) (j ∷ q) x y e f h = number_in_inj r i j p q x y e f h
   number_inj (leaf t v) [] [] x y e f h = refl
-  number_inj (leaf t v) [] (j ∷ q) x y e f h = absurd (none-some f)
-  number_inj (leaf t v) (i ∷ p) q x y e f h = absurd (none-some e)
+  number_inj (leaf t v) [] (j ∷ q) x y e f h = absurd (none_some f)
+  number_inj (leaf t v) (i ∷ p) q x y e f h = absurd (none_some e)
 
   pub number_in_inj : (r : Run) (i j : ℕ) (p q : Place) (x y : Node) → child_at r i p ≡ some x → child_at r j q ≡ some y
       → number_in r i p ≡ number_in r j q → i ∷ p ≡ j ∷ q
-  number_in_inj nil i j p q x y e f h = absurd (none-some e)
+  number_in_inj nil i j p q x y e f h = absurd (none_some e)
   number_in_inj (cons n r) zero zero p q x y e f h = ap (λ (z : Place). 0 ∷ z) (number_inj n p q x y e f h)
   number_in_inj (cons n r) zero (suc j) p q x y e f h = absurd (let k : number n p < size n = number_low n p x e in omega arith)
   number_in_inj (cons n r) (suc i) zero p q x y e f h = absurd (let k : number n q < size n = number_low n q y f in omega arith)
@@ -119,10 +119,10 @@ mutual
   rows_at (inner r) [] x e = subst (λ (y : Node). Within (rows (inner r)) y (sizes r)) (some_inj e) (whole (inner r))
   rows_at (inner r) (i ∷ p) x e = after (rows_in r) (node (count r) ∷ []) x (number_in r i p) (rows_at_in r i p x e)
   rows_at (leaf t v) [] x e = subst (λ (y : Node). Within (rows (leaf t v)) y 0) (some_inj e) (whole (leaf t v))
-  rows_at (leaf t v) (i ∷ p) x e = absurd (none-some e)
+  rows_at (leaf t v) (i ∷ p) x e = absurd (none_some e)
 
   pub rows_at_in : (r : Run) (i : ℕ) (p : Place) (x : Node) → child_at r i p ≡ some x → Within (rows_in r) x (number_in r i p)
-  rows_at_in nil i p x e = absurd (none-some e)
+  rows_at_in nil i p x e = absurd (none_some e)
   rows_at_in (cons n r) zero p x e = after (rows n) (rows_in r) x (number n p) (rows_at n p x e)
   rows_at_in (cons n r) (suc i) p x e =
       subst (λ (k : ℕ). Within (rows n ++ rows_in r) x (k + number_in r i p)) (length_rows n)

@@ -3,7 +3,7 @@ use Rattle.std.specs.Prelude.{ℕ, zero, suc, ◌+◌, ◌≤◌, ◌<◌, true,
 use Rattle.std.proofs.Common.{sym, ap₂, ◌∙◌, arith, take-append-drop, length-drop, length-take-le}
 use Rattle.trees.specs.Rows.{Entry}
 use Rattle.tables.specs.Tables.{table, entry_of, entries, row_fits, first_bad, sum}
-use Rattle.codec.specs.TableLaws.{row-cases, form_cons}
+use Rattle.codec.specs.TableLaws.{row_cases, form_cons}
 use Rattle.tables.specs.Cells.{type_cell, count_cell, length_cell, value_cell, values_of}
 use Rattle.unpack.specs.Unpack.{table_of}
 
@@ -21,7 +21,7 @@ record Cells (t c l : ℕ) (v : List ℕ) (e : Entry) : Type 0 where
 cells : (t c l : ℕ) (v : List ℕ) → row_fits t c l ≡ true → length v ≡ l → Cells t c l v (entry_of t c v)
 cells t zero l v f e = record { type = refl; count = refl; size = e; value = refl }
 cells t (suc c) l v f e =
-    row-cases t (suc c) l f
+    row_cases t (suc c) l f
     (λ a b d g. record { type = sym a; count = refl; size = sym b; value = sym (none v (e ∙ b)) })
     (λ a b d. absurd (omega arith))
     (λ a b d g. absurd (omega arith))

@@ -1,6 +1,6 @@
 -- `compose` meets its contract: each return is one of the outcome's tests.
 use native.Mathlib.Omega.{arith}
-use Rattle.titles.proofs.Answers.{met_long, met_refused, met_short, met-taken, in_buffer, part_long}
+use Rattle.titles.proofs.Answers.{met_long, met_refused, met_taken, in_buffer, part_long}
 use Rattle.titles.proofs.compose.Goals as goal
 
 pub returns-then-title-gt-MAX_BYTES : goal.returns-then-title-gt-MAX_BYTES
@@ -8,12 +8,6 @@ returns-then-title-gt-MAX_BYTES c = met_long _ _ c.refused.result c.if-title-gt-
 
 pub returns-then-answer-ne-ACCEPTED : goal.returns-then-answer-ne-ACCEPTED
 returns-then-answer-ne-ACCEPTED c = met_refused _ _ _ _ c.scan-answer.ensures c.if-title-gt-MAX_BYTES.false c.if-answer-ne-ACCEPTED.true
-
-pub returns-then-out-n : goal.returns-then-out-n
-returns-then-out-n c =
-    met_short _ _ _ _ c.scan-answer.ensures c.if-title-gt-MAX_BYTES.false c.if-answer-ne-ACCEPTED.false c.refused-then-out-n.result
-    c.if-out-n.true
-    c.refused-then-out-n.ensures
 
 -- the composed title lies within the buffer
 pub slice_bounds-text-end : goal.slice_bounds-text-end
@@ -27,9 +21,9 @@ slice_bounds-copy-end c =
 pub copy-requires : goal.copy-requires
 copy-requires c =
     let long = part_long _ c.args.out.now _ _ c.scan-answer.ensures c.if-title-gt-MAX_BYTES.false c.if-answer-ne-ACCEPTED.false in
-    omega (arith, long, c.if-out-n.false)
+    omega (arith, long)
 
 pub returns : goal.returns
 returns c =
-    met-taken _ _ _ _ c.scan-answer.ensures c.if-title-gt-MAX_BYTES.false c.if-answer-ne-ACCEPTED.false _ c.if-out-n.false
+    met_taken _ _ _ _ c.scan-answer.ensures c.if-title-gt-MAX_BYTES.false c.if-answer-ne-ACCEPTED.false _ (omega arith)
     c.copy.ensures.1

@@ -6,7 +6,7 @@ use lib.ListN.{length, take}
 use lib.Seq.{length-take-le, paste}
 use Rattle.compression.specs.Compression.{chain}
 use Rattle.words.specs.Sha256.{sha256}
-use Rattle.lists.specs.PartsLaws.{tail-part}
+use Rattle.lists.specs.PartsLaws.{tail_part}
 use Rattle.sha256.proofs.Holding.{held_short, held_long}
 use Rattle.sha256.proofs.digest.Digest.absorb.Goals as goal
 
@@ -43,5 +43,5 @@ returns c =
     held_long sha256 d part rest room w (omega (arith, d.few, d.cut, d.long)) (omega arith) there (blocks-in _ _ there) (blocks-over _ _ there)
     (c.filled-block.ensures ∙ ap (paste _ rest (take room part)) (length-take-le room part there))
     c.chain-state.ensures
-    (c.chain-state-2.ensures ∙ ap (chain sha256 _ w) (tail-part part room))
-    (c.filled-tail-2.ensures ∙ ap (λ (l : List ℕ). paste c.filled-block.result 0 l (length l)) (tail-part part (room + 64 * w)))
+    (c.chain-state-2.ensures ∙ ap (chain sha256 _ w) (tail_part part room))
+    (c.filled-tail-2.ensures ∙ ap (λ (l : List ℕ). paste c.filled-block.result 0 l (length l)) (tail_part part (room + 64 * w)))
