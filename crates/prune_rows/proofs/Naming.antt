@@ -11,7 +11,8 @@ use lib.Seq.{drop-cons}
 use borrow.Author.Tests.{lt-leb, le-leb, lt-ltb, le-ltb, ltb-true, ltb-false}
 use Rattle.tables.specs.PruningList.{named, first_fault}
 use Rattle.prune_rows.specs.Steps.{Before}
-use Rattle.tables.proofs.ListRule.{Rising, clean_rule, named_at, named_not}
+use Rattle.tables.specs.ListRule.{Rising}
+use Rattle.tables.proofs.ListRule.{clean_rule, named_at, named_not}
 
 -- one number is below another, or it is not
 below_or {ℓ} : {C : Type ℓ} (a b : ℕ) → (a < b → C) → (b ≤ a → C) → C

@@ -4,7 +4,7 @@ use Rattle.std.proofs.Math.Option.{some}
 use Rattle.trees.specs.Nodes.{Node, Run, inner, leaf, nil, cons, size, sizes}
 use Rattle.trees.specs.Places.{Place, node_at}
 use Rattle.trees.specs.Rows.{number}
-use Rattle.tables.proofs.ListRule.{Rising}
+use Rattle.tables.specs.ListRule.{Rising}
 
 -- x is the entry number of an internal node
 pub record InnerAt (n : Node) (x : ℕ) : Type 0 where

@@ -17,7 +17,8 @@ use Rattle.trees.specs.Rows.{node, tip, formed, rows, last_row, number, number_i
 use Rattle.trees.specs.RowsLaws.{length_rows}
 use Rattle.trees.specs.NumbersLaws.{Numbered, number_low, number_in_low, number_onto, entry_at, moved}
 use Rattle.tables.specs.PruningList.{named, first_fault, pruned}
-use Rattle.tables.proofs.ListRule.{Clean, Faulty, falls, outside, childless, clean_none, clean_cons, clean_tail, clean_rule, rule_clean, fault_told, fault_is, named_at}
+use Rattle.tables.specs.ListRule.{Clean, Faulty, falls, outside, childless}
+use Rattle.tables.proofs.ListRule.{clean_none, clean_cons, clean_tail, clean_rule, rule_clean, fault_told, fault_is, named_at}
 use Rattle.tables.specs.Cells.{count_cell}
 use Rattle.prune_rows.specs.Names.{InnerAt, LeafAt, CleanList, Misnames, FaultyList, numbers, numbers_in}
 use Rattle.prune_rows.specs.Names as Names

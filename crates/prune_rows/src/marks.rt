@@ -4,7 +4,7 @@ ghost use Rattle.trees.specs.Rules.{max_nodes};
 ghost use Rattle.tables.specs.PruningList.{named, first_fault};
 ghost use Rattle.prune_rows.specs.Marks.{mark_by, owed_by, walk, at_end};
 ghost use Rattle.prune_rows.specs.Steps.{Before};
-ghost use Rattle.tables.proofs.ListRule.{Rising};
+ghost use Rattle.tables.specs.ListRule.{Rising};
 
 use tables::form::cell;
 

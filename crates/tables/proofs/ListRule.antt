@@ -1,4 +1,4 @@
--- What the rule of the pruning list means: "entry numbers of internal nodes, strictly rising"; and where it is broken, the index told.
+-- What the rule of the pruning list means.
 use Rattle.std.specs.Prelude.{ℕ, zero, suc, ◌+◌, ◌≤◌, ◌<◌, Bool, true, false, ◌&&◌, ◌≡◌, refl, leb, ltb, eqb, get_or, take}
 use Rattle.std.proofs.Math.Bool.{and-false}
 use Rattle.std.proofs.Common.{true≢false, ◌∙◌, leb-true, leb-false, ltb-true, ltb-false, le-leb, lt-ltb, eq-eqb, ne_eqb, eqb-true}
@@ -8,33 +8,7 @@ use native.Mathlib.Omega.{arith}
 use Rattle.std.proofs.Math.ListN.{length, get_or-eq_default}
 use Rattle.lists.specs.TestsLaws.{and_left, and_right, and_both, or_second, or_cases}
 use Rattle.tables.specs.PruningList.{named, first_fault}
-
--- "strictly rising"
-abbrev pub Rising : List ℕ → Type 0
-Rising list = (a b : ℕ) → a < b → b < length list → get_or list a 0 < get_or list b 0
-
--- "names entry numbers of internal nodes": every number of the list is that of a row with children
-abbrev pub NamesInner : List ℕ → List ℕ → Type 0
-NamesInner counts list = (k : ℕ) → k < length list → 0 < get_or counts (get_or list k 0) 0
-
--- the number at index k is faulty: "not rising, out of range, or not an internal node"
-pub data Faulty (counts list : List ℕ) (k : ℕ) : Type 0 where
-  falls : (j : ℕ) → j < k → get_or list k 0 ≤ get_or list j 0 → Faulty counts list k
-  outside : length counts ≤ get_or list k 0 → Faulty counts list k
-  childless : get_or list k 0 < length counts → get_or counts (get_or list k 0) 0 ≡ 0 → Faulty counts list k
-
--- "the first faulty index in the list": the numbers before it keep the rule, and it is faulty
-pub record FaultAt (counts list : List ℕ) (k : ℕ) : Type 0 where
-  pub within : k < length list
-  pub rising : Rising (take k list)
-  pub inner : NamesInner counts (take k list)
-  pub fault : Faulty counts list k
-
--- a list that keeps the rule, in which no number is below low
-pub record Clean (counts : List ℕ) (low : ℕ) (list : List ℕ) : Type 0 where
-  pub above : (k : ℕ) → k < length list → low ≤ get_or list k 0
-  pub rising : Rising list
-  pub inner : NamesInner counts list
+use Rattle.tables.specs.ListRule.{Rising, NamesInner, Faulty, falls, outside, childless, FaultAt, Clean}
 
 -- the number that may come first
 abbrev may : List ℕ → ℕ → ℕ → Bool
@@ -46,7 +20,7 @@ may_told counts low x h = (
   ltb-true 0 (get_or counts x 0) (and_right (leb low x) (ltb 0 (get_or counts x 0)) h),
 )
 
--- firstFault, one number at a time: one that may come is passed, and one that may not is told at its own index
+-- `first_fault`, one number at a time: one that may come is passed, and one that may not is told at its own index
 module _ (counts : List ℕ) (i low x : ℕ) (xs : List ℕ) where
   fault_later : may counts low x ≡ true → first_fault counts i low (x ∷ xs) ≡ first_fault counts (i + 1) (x + 1) xs
   unfolding first_fault

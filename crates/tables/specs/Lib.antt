@@ -5,6 +5,7 @@ pub mod Areas
 pub mod Tables
 pub mod Cells
 pub mod PruningList
+pub mod ListRule
 pub mod Records
 -- Laws:
 pub mod TablesLaws
