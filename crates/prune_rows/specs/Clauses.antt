@@ -2,7 +2,7 @@
 use Rattle.std.specs.Prelude.{ℕ, ◌+◌, ◌*◌, ◌≤◌, ◌≡◌, List, length, take}
 use Rattle.trees.specs.Nodes.{Node}
 use Rattle.trees.specs.Rules.{label_bytes}
-use Rattle.trees.specs.Rows.{Entry, rows, pruned_rows}
+use Rattle.trees.specs.Rows.{Entry, pruned_rows}
 use Rattle.tables.specs.Tables.{entries, first_bad, sum}
 use Rattle.tables.specs.PruningList.{named, first_fault}
 use Rattle.tables.specs.Records.{Holds}

@@ -1,10 +1,9 @@
-use Prim.Native.Nat.{ℕ, ◌≤◌}
+use Prim.Native.Nat.{ℕ}
 use mathlib.Core.Path.{◌≡◌, sym, ap, ◌∙◌}
 use native.Mathlib.Omega.{arith}
 use borrow.Author.Tests.{not-true, not-false}
 use lib.ListN.{length}
 use Rattle.outcomes.specs.Refusals.{accepted}
-use Rattle.trees.specs.Rules.{max_bytes}
 use Rattle.tables.specs.Tables.{Table, table, Formed}
 use Rattle.codec.specs.Writing.{slip_of}
 use Rattle.answers.specs.declared.Answer.{Answer}

@@ -4,31 +4,34 @@ use native.Mathlib.Omega.{arith}
 use lib.ListN.{length, get_or, length-take, length-drop}
 use Rattle.pick_rows.proofs.Picking.{value_part, label_part, value_in, value_room, going_none, going_puts, going_more, going_all}
 use Rattle.pick_rows.proofs.pick.Goals as goal
+use Rattle.pick_rows.proofs.pick.Goals.{In-loop-i}
 
 pub loop-i-init : goal.loop-i-init
 loop-i-init c = (omega arith, refl, refl, refl, refl, going_none c.requires.pick_asks _ _ _ _)
 
+-- row i has a mark, and its value stands in the area
+marked : (c : In-loop-i) → c.loop-i.i < length c.args.marks.now
+marked c = omega (arith, c.requires.pick_room.1, c.loop-i-test.true)
+
+value_there : (c : In-loop-i) → c.loop-i.at + get_or c.args.lengths.now c.loop-i.i 0 ≤ length c.args.values.now
+value_there c = value_in c.requires.pick_asks c.loop-i.invariant.5 c.loop-i-test.true (marked c)
+
 pub overflow_add-end : goal.overflow_add-end
 overflow_add-end c =
-    let marked : c.loop-i.i < length c.args.marks.now = omega (arith, c.requires.pick_room.1, c.loop-i-test.true) in
-    let value_there : c.loop-i.at + get_or c.args.lengths.now c.loop-i.i 0 ≤ length c.args.values.now = value_in c.requires.pick_asks c.loop-i.invariant.5 c.loop-i-test.true marked in
-    omega (arith, value_there, c.cell.ensures.0, c.well_formed)
+    omega (arith, value_there (goal.at.overflow_add-end c).In-loop-i, c.cell.ensures.0, c.well_formed)
 
 pub slice_bounds-turn-end : goal.slice_bounds-turn-end
 slice_bounds-turn-end c =
-    let marked : c.loop-i.i < length c.args.marks.now = omega (arith, c.requires.pick_room.1, c.loop-i-test.true) in
-    let value_there : c.loop-i.at + get_or c.args.lengths.now c.loop-i.i 0 ≤ length c.args.values.now = value_in c.requires.pick_asks c.loop-i.invariant.5 c.loop-i-test.true marked in
-    omega (arith, value_there, c.cell.ensures.0)
+    omega (arith, value_there (goal.at.slice_bounds-turn-end c).In-loop-i, c.cell.ensures.0)
 
 pub turn-p-requires : goal.turn-p-requires
 turn-p-requires c =
-    let marked : c.loop-i.i < length c.args.marks.now = omega (arith, c.requires.pick_room.1, c.loop-i-test.true) in
     let p = c.requires in
     let a = c.args in
     let l = c.loop-i in
     let r = p.pick_room.0 in
     let here : l.i < length a.types.now = c.loop-i-test.true in
-    let some = marked in (
+    let some = marked (goal.at.turn-p-requires c).In-loop-i in (
       p.pick_asks.cuts l.i here,
       simp (length-take, length-drop) (omega (arith, here, p.pick_asks.labels_room)),
       going_puts p.pick_asks l.invariant.5 here some _ (value_part a.values.now l.at c.cell.result _ c.cell.ensures.0)
@@ -39,7 +42,6 @@ turn-p-requires c =
 
 pub loop-i-preserved : goal.loop-i-preserved
 loop-i-preserved c =
-    let marked : c.loop-i.i < length c.args.marks.now = omega (arith, c.requires.pick_room.1, c.loop-i-test.true) in
     let a = c.args in
     let l = c.loop-i in
     let turn = c.turn-p in
@@ -50,7 +52,7 @@ loop-i-preserved c =
       turn.auto.counts2 ∙ l.invariant.2,
       turn.auto.lengths2 ∙ l.invariant.3,
       turn.auto.values2 ∙ l.invariant.4,
-      going_more c.requires.pick_asks l.invariant.5 here marked _ _
+      going_more c.requires.pick_asks l.invariant.5 here (marked (goal.at.loop-i-preserved c).In-loop-i) _ _
           (value_part a.values.now l.at cell.result _ cell.ensures.0) (label_part a.labels.now l.i)
           (ap (λ (k : ℕ). l.at + k) cell.ensures.0) turn.ensures,
     )

@@ -9,29 +9,35 @@ use Rattle.columns.specs.Gathers.{cell_of}
 use Rattle.columns.proofs.Gathering.{sum_step, sum_end, values_more, values_done, copied, value_is, value_long}
 use borrow.Author.Rules.{rules}
 use Rattle.columns.proofs.gather.copy_values.Goals as goal
+use Rattle.columns.proofs.gather.copy_values.Goals.{In-loop-k}
 
-pub copy-requires : goal.copy-requires
-copy-requires c =
-    let fits : let l = c.loop-k in let a = c.args in let x = get_or a.plan.now l.k 0 in (x < length a.lengths.now) × (x < length a.offsets.now) × (get_or a.offsets.now x 0 + get_or a.lengths.now x 0 ≤ length a.values.now) × (l.used + get_or a.lengths.now x 0 ≤ length l.out) = let l = c.loop-k in
+-- the plan's row k has its cells and its value, and the area has room for that
+fits : (c : In-loop-k) →
+    let l = c.loop-k in
+    let a = c.args in
+    let x = get_or a.plan.now l.k 0 in
+    (x < length a.lengths.now)
+    × (x < length a.offsets.now)
+    × (get_or a.offsets.now x 0 + get_or a.lengths.now x 0 ≤ length a.values.now)
+    × (l.used + get_or a.lengths.now x 0 ≤ length l.out)
+fits c =
+    let l = c.loop-k in
     let a = c.args in
     let p = c.requires in
     let h = p.0 l.k (omega arith) in
     let s = sum_step (cell_of a.lengths.now) a.plan.now l.k (omega arith) in
-    (h, omega (arith, h, p.1), p.2 _ h, omega (arith, s, l.invariant.1, l.invariant.2, p.3)) in
-    let f = fits in
+    (h, omega (arith, h, p.1), p.2 _ h, omega (arith, s, l.invariant.1, l.invariant.2, p.3))
+
+pub copy-requires : goal.copy-requires
+copy-requires c =
+    let f = (fits (goal.at.copy-requires c).In-loop-k) in
     simp (length-take, length-drop) (omega (arith, f.2, f.3, c.cell-length.ensures.0))
 
 pub loop-k-preserved : goal.loop-k-preserved
 loop-k-preserved c =
-    let fits : let l = c.loop-k in let a = c.args in let x = get_or a.plan.now l.k 0 in (x < length a.lengths.now) × (x < length a.offsets.now) × (get_or a.offsets.now x 0 + get_or a.lengths.now x 0 ≤ length a.values.now) × (l.used + get_or a.lengths.now x 0 ≤ length l.out) = let l = c.loop-k in
-    let a = c.args in
-    let p = c.requires in
-    let h = p.0 l.k (omega arith) in
-    let s = sum_step (cell_of a.lengths.now) a.plan.now l.k (omega arith) in
-    (h, omega (arith, h, p.1), p.2 _ h, omega (arith, s, l.invariant.1, l.invariant.2, p.3)) in
     let l = c.loop-k in
     let a = c.args in
-    let f = fits in
+    let f = (fits (goal.at.loop-k-preserved c).In-loop-k) in
     let s = sum_step (cell_of a.lengths.now) a.plan.now l.k (omega arith) in
     let n = c.cell-length in
     let x = get_or a.plan.now l.k 0 in
