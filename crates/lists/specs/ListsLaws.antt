@@ -1,7 +1,8 @@
 -- Laws of plain lists.
-use Rattle.std.specs.Prelude.{ℕ, zero, suc, ◌+◌, ◌<◌, ◌≡◌, refl, ◌≢◌, Bool, true, false, List, [], ◌∷◌, ◌++◌, eqb, length, take, drop, get_or, replicate}
+use Rattle.std.specs.Prelude.{ℕ, zero, suc, ◌+◌, ◌<◌, ◌≡◌, refl, ◌≢◌, Bool, true, false, ◌&&◌, List, [], ◌∷◌, ◌++◌, eqb, length, take, drop, get_or, replicate}
 use Rattle.std.proofs.Common.{sym, ap, ◌∙◌, subst, true≢false, append_assoc, suc-add, add-suc, add-zero, arith, length-append, eqb-true, eq-eqb}
 use Rattle.std.proofs.lemmas.Bool.{false≢true}
+use lib.Pointwise.{pointwise}
 use Rattle.std.proofs.Math.Option.{none, some}
 use Rattle.std.proofs.lemmas.List.{get_or_at}
 use Rattle.lists.specs.TestsLaws.{and_left, and_right, and_both}
@@ -69,6 +70,13 @@ same_true (a ∷ x) (b ∷ y) e =
 pub same_refl : (x : List ℕ) → same x x ≡ true
 same_refl [] = refl
 same_refl (a ∷ x) = and_both (eqb a a) (same x x) (eq-eqb a a refl) (same_refl x)
+
+-- the library's comparison of two texts is the same
+pub same_is : (x y : List ℕ) → pointwise eqb x y ≡ same x y
+same_is [] [] = refl
+same_is [] (y ∷ ys) = refl
+same_is (x ∷ xs) [] = refl
+same_is (x ∷ xs) (y ∷ ys) = ap (λ (b : Bool). eqb x y && b) (same_is xs ys)
 
 -- a test that holds just where two lists are equal
 pub same_by : (r : Bool) (x y : List ℕ) → (r ≡ true → x ≡ y) → (x ≡ y → r ≡ true) → r ≡ same x y

@@ -5,3 +5,4 @@ pub mod Chain
 -- Laws:
 pub mod ChainLaws
 pub mod OutcomeLaws
+pub mod RefusalsLaws

@@ -1,5 +1,7 @@
 -- Document 01's refusal numbers. The code has each under the same name, in `Refusal`.
 use Rattle.std.specs.Prelude.{ℕ}
+use Rattle.outcomes.specs.declared.numbers.Refusal.{Refusal}
+use Rattle.outcomes.specs.declared.numbers.Refusal.TheVariants.{TooLong, CutShort, OtherEdition, NoNodes, ChildrenMissing, TooHigh, SaltBroken, NotComposed, NotOneTree, BadPadding, NoRoom, BadList, RootsDiffer, Clashing, JoinTooLarge, BadTable, TitleLong, NotUtf8, OutsideRepertoire, LooseMark}
 
 -- "accepted"
 abbrev pub accepted : ℕ
@@ -84,3 +86,26 @@ outside_repertoire = 19
 -- "mark without a letter that takes it"
 abbrev pub loose_mark : ℕ
 loose_mark = 20
+
+-- the number of each refusal of the code
+abbrev pub number_of : Refusal → ℕ
+number_of TooLong = too_long
+number_of CutShort = cut_short
+number_of OtherEdition = other_edition
+number_of NoNodes = no_nodes
+number_of ChildrenMissing = children_missing
+number_of TooHigh = too_high
+number_of SaltBroken = salt_broken
+number_of NotComposed = not_composed
+number_of NotOneTree = not_one_tree
+number_of BadPadding = bad_padding
+number_of NoRoom = no_room
+number_of BadList = bad_list
+number_of RootsDiffer = roots_differ
+number_of Clashing = clashing
+number_of JoinTooLarge = join_too_large
+number_of BadTable = bad_table
+number_of TitleLong = title_long
+number_of NotUtf8 = not_utf8
+number_of OutsideRepertoire = outside_repertoire
+number_of LooseMark = loose_mark

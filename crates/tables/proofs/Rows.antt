@@ -4,8 +4,10 @@ use mathlib.Core.Bool.{true, false, or-false, and-false}
 use lib.Dec.{leb, eqb}
 use borrow.Author.Tests.{ne_eqb, le-leb, lt-leb}
 use Rattle.trees.specs.Rules.{max_type, max_value, max_children, label_bytes}
-use mathlib.Core.Path.{◌≡◌, ◌∙◌}
+use mathlib.Core.Path.{◌≡◌, ◌∙◌, refl}
 use mathlib.Core.List.{List, ◌∷◌}
+use Rattle.std.specs.Prelude.{sum_by}
+use Rattle.std.proofs.lemmas.List.Recursion.{is_sum_by}
 use native.Mathlib.Numerals.{add-one}
 use native.Mathlib.Omega.{arith}
 use lib.ListN.{length, drop, get_or, drop_of_length-le}
@@ -70,3 +72,8 @@ sum_more ls i total p =
 pub sum_none : (ls : List ℕ) (i : ℕ) → length ls ≤ i → sum (drop i ls) ≡ 0
 unfolding sum
 sum_none ls i p = rw (drop_of_length-le ls p)
+
+-- the same sum as the library's
+pub sum_is : (ls : List ℕ) → sum ls ≡ sum_by (λ n. n) ls
+unfolding sum
+sum_is ls = is_sum_by sum (λ n. n) refl (λ x xs. refl) ls

@@ -1,17 +1,19 @@
 // Whether a table has the form of document 01.
-ghost use Rattle.std.specs.Prelude.{◌≡◌, ◌≤◌, ◌<◌, length, get_or};
+ghost use Rattle.std.specs.Prelude.{◌≡◌, ◌≤◌, ◌<◌, length, get_or, unwrap_or, IfSome};
 ghost use Rattle.trees.specs.Rules.{max_nodes};
 ghost use Rattle.tables.specs.Tables as Tables;
-ghost use Rattle.tables.specs.Tables.{row_fits, first_bad, columns_fit, table_fits, table};
+ghost use Rattle.tables.specs.Tables.{row_fits, first_bad, columns_fit, table_fits};
+ghost use Rattle.tables.specs.Seen.{seen};
 
 use crate::limits::Slip;
+use crate::table::Table;
 
 // A cell as a number.
 pub fn cell(column: &[u16], i: usize) -> usize
     requires { i < length column.now }
     ensures { (result ≡ get_or column.now i 0) × (result < 65536) }
 {
-    column[i] as usize
+    usize::from(column[i])
 }
 
 // Whether a row is internal, dangling or a pair.
@@ -37,56 +39,41 @@ pub fn row_fits(t: usize, c: usize, l: usize) -> bool
     l <= Slip::MAX_VALUE
 }
 
-// The first row that is not of the form, or the number of rows.
-pub fn first_bad(types: &[u16], counts: &[u16], lengths: &[u16]) -> usize
-    requires { (length counts.now ≡ length types.now) × (length lengths.now ≡ length types.now) }
-    ensures { result ≡ first_bad 0 types.now counts.now lengths.now }
+// The first row that is not of the form.
+pub fn first_bad(t: Table) -> Option<usize>
+    requires { (length t.counts.now ≡ length t.types.now) × (length t.lengths.now ≡ length t.types.now) }
+    ensures within { IfSome result (λ i. i < length t.entry.types.now) }
+    ensures first { unwrap_or result (length t.entry.types.now) ≡ first_bad 0 t.entry.types.now t.entry.counts.now t.entry.lengths.now }
 {
-    let mut i = 0;
-    while i < types.len() {
-        if !row_fits(cell(types, i), cell(counts, i), cell(lengths, i)) {
-            return i;
+    for i in 0..t.types.len() {
+        if !row_fits(cell(t.types, i), cell(t.counts, i), cell(t.lengths, i)) {
+            return Some(i);
         }
-        i += 1;
     }
-    i
+    None
 }
 
 pub fn sum(lengths: &[u16]) -> usize
     requires { length lengths.now ≤ max_nodes }
     ensures { result ≡ Tables.sum lengths.now }
 {
-    let mut total = 0;
-    let mut i = 0;
-    while i < lengths.len() {
-        total += cell(lengths, i);
-        i += 1;
-    }
-    total
+    lengths.iter().map(|l| usize::from(*l)).sum()
 }
 
 // Whether the columns have one row each for at most as many nodes as a slip has.
-pub fn columns_fit(types: &[u16], counts: &[u16], lengths: &[u16]) -> bool
-    ensures { result ≡ columns_fit types.now counts.now lengths.now }
+pub fn columns_fit(t: Table) -> bool
+    ensures { result ≡ columns_fit t.entry.types.now t.entry.counts.now t.entry.lengths.now }
 {
-    if counts.len() != types.len() {
-        return false;
-    }
-    if lengths.len() != types.len() {
-        return false;
-    }
-    types.len() <= Slip::MAX_NODES
+    let rows = t.types.len();
+    t.counts.len() == rows && t.lengths.len() == rows && rows <= Slip::MAX_NODES
 }
 
 // Whether the table has the form: number 16 would not refuse it.
-pub fn table_fits(types: &[u16], counts: &[u16], lengths: &[u16], values: &[u8]) -> bool
-    ensures { result ≡ table_fits (table types.now counts.now lengths.now values.now) }
+pub fn table_fits(t: Table) -> bool
+    ensures { result ≡ table_fits (seen t.entry) }
 {
-    if !columns_fit(types, counts, lengths) {
+    if !columns_fit(t) {
         return false;
     }
-    if first_bad(types, counts, lengths) < types.len() {
-        return false;
-    }
-    values.len() == sum(lengths)
+    first_bad(t).is_none() && t.values.len() == sum(t.lengths)
 }

@@ -1,15 +1,11 @@
-use borrow.Author.Tests.{eq-eqb, ne_eqb}
+use Rattle.std.proofs.Common.{rules}
 use Rattle.tables.specs.Tables.{columns_fit}
 use Rattle.tables.proofs.form.columns_fit.Goals as goal
 
-pub returns-then-counts-types : goal.returns-then-counts-types
+pub returns-then-t-rows-2 : goal.returns-then-t-rows-2
 unfolding columns_fit
-returns-then-counts-types c = simp (ne_eqb _ _ c.if-counts-types.true)
+returns-then-t-rows-2 c = search rules
 
-pub returns-then-lengths-types : goal.returns-then-lengths-types
+pub returns-else-t-rows-2 : goal.returns-else-t-rows-2
 unfolding columns_fit
-returns-then-lengths-types c = simp (eq-eqb _ _ c.if-counts-types.false, ne_eqb _ _ c.if-lengths-types.true)
-
-pub returns : goal.returns
-unfolding columns_fit
-returns c = simp (eq-eqb _ _ c.if-counts-types.false, eq-eqb _ _ c.if-lengths-types.false)
+returns-else-t-rows-2 c = search rules

@@ -1,11 +1,6 @@
-use Prim.Native.Nat.{◌-◌, ◌≤◌}
-use lib.ListN.{length, drop}
+use Rattle.std.proofs.Common.{◌≡◌, drop}
 use Rattle.tables.specs.Tables.{first_bad}
-use mathlib.Core.Path.{◌≡◌}
 use Rattle.tables.proofs.form.first_bad.Given as goal
 
 abbrev pub invariant-loop-i : goal.invariant-loop-i
-invariant-loop-i l = (l.i ≤ length l.types) × (first_bad 0 l.types l.counts l.lengths ≡ first_bad l.i (drop l.i l.types) (drop l.i l.counts) (drop l.i l.lengths))
-
-abbrev pub decreases-loop-i : goal.decreases-loop-i
-decreases-loop-i l = length l.types - l.i
+invariant-loop-i l = first_bad 0 l.t.types.now l.t.counts.now l.t.lengths.now ≡ first_bad l.i (drop l.i l.t.types.now) (drop l.i l.t.counts.now) (drop l.i l.t.lengths.now)
