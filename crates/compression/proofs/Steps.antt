@@ -1,20 +1,12 @@
 -- Laws of the schedule, the rounds and the chain, in the code's own terms.
-use Rattle.std.proofs.Common.{◌≡◌, ℕ, suc, ◌+◌, ◌-◌, ◌*◌, ◌<◌, ◌≤◌, List, [], ◌∷◌, length, get_or, take, drop, set, ap, ◌∙◌, add-one, arith, length-set, get_or-take}
+use Rattle.std.proofs.Common.{◌≡◌, ℕ, zero, suc, ◌+◌, ◌-◌, ◌*◌, ◌<◌, ◌≤◌, List, [], length, get_or, take, set, refl, sym, ap, ◌∙◌, add-one, arith, length-set, get_or-take, take_all}
+use Rattle.std.proofs.Math.Seq.{take-suc}
+use Rattle.std.specs.Simd.{first_chunks}
 use Rattle.words.specs.Words.{plus}
-use Rattle.compression.specs.Compression.{following, schedule, scheduled, first, second, round, rounds, added, compress, chain}
+use Rattle.compression.specs.Compression.{following, schedule, round, rounds, added, compress, chain}
 use Rattle.words.specs.Sha256.{sha256, constants}
 use Rattle.lists.specs.PartsLaws.{filled}
-
--- a round, from what the code's steps give
-pub round_is :
-    (v : List ℕ) (k w : ℕ) {t1 t2 a e : ℕ}
-    → t1 ≡ first sha256 v k w
-    → t2 ≡ second sha256 v
-    → a ≡ plus 32 t1 t2
-    → e ≡ plus 32 (get_or v 3 0) t1
-    → a ∷ get_or v 0 0 ∷ get_or v 1 0 ∷ get_or v 2 0 ∷ e ∷ get_or v 4 0 ∷ get_or v 5 0 ∷ get_or v 6 0 ∷ [] ≡ round sha256 v k w
-unfolding round
-round_is v k w p q r s = rw (r, s, p, q)
+use Rattle.compression.proofs.Block.{chunk_at}
 
 -- the next word looks only at those before it
 following_take : (w : List ℕ) (t : ℕ) → 16 ≤ t → following sha256 w t ≡ following sha256 (take t w) t
@@ -27,8 +19,10 @@ following_take w t h =
     )
 
 -- w begins with the first t words of the schedule of the block's words m
-abbrev pub Begins : List ℕ → ℕ → List ℕ → Type 0
-Begins m t w = (16 ≤ t) × (length w ≡ 64) × (take t w ≡ schedule sha256 (t - 16) m)
+pub record Begins (m : List ℕ) (t : ℕ) (w : List ℕ) : Type 0 where
+  pub from : 16 ≤ t
+  pub room : length w ≡ 64
+  pub first : take t w ≡ schedule sha256 (t - 16) m
 
 -- one word more
 pub schedule_more :
@@ -39,28 +33,27 @@ pub schedule_more :
     → u ≡ set w t (following sha256 w t)
     → Begins m after u
 unfolding schedule
-schedule_more m t after w u few e (from, room, p) q =
+schedule_more m t after w u few e begun q =
     let n : after - 16 ≡ suc (t - 16) = omega arith in
     let at : 16 + (t - 16) ≡ t = omega arith in
     let same : following sha256 w t ≡ following sha256 (schedule sha256 (t - 16) m) t =
-    following_take w t from ∙ ap (λ (l : List ℕ). following sha256 l t) p in (
-      omega arith,
-      ap length q ∙ simp length-set room,
-      rw (q, n, at, ← same) (filled w t after (following sha256 w t) (omega arith) e p),
-    )
+    following_take w t begun.from ∙ ap (λ (l : List ℕ). following sha256 l t) begun.first in
+    record {
+      from = omega arith;
+      room = ap length q ∙ simp length-set begun.room;
+      first = rw (q, n, at, ← same) (filled w t after (following sha256 w t) (omega arith) e begun.first);
+    }
 
--- one round more, with the constants as the code has them
+-- one round more
 pub rounds_more :
-    (h w : List ℕ) {k : List ℕ}
-    → k ≡ constants
-    → (t after : ℕ) (v u : List ℕ)
+    (h w : List ℕ) (t after : ℕ) (v u : List ℕ)
     → t < 64
     → after ≡ suc t
     → v ≡ rounds sha256 t h w
-    → u ≡ round sha256 v (get_or k t 0) (get_or w t 0)
+    → u ≡ round sha256 v (get_or constants t 0) (get_or w t 0)
     → u ≡ rounds sha256 after h w
 unfolding rounds
-rounds_more h w c t after v u few e p q = rw (e, q, p, c)
+rounds_more h w t after v u few e p q = rw (e, q, p)
 
 -- What each step keeps, a turn of eight keeps: the schedule and the rounds go eight a turn.
 pub eight :
@@ -94,34 +87,33 @@ eight more turn few p q1 q2 q3 q4 q5 q6 q7 q8 =
     q7)
     q8
 
--- one word more
-pub added_more :
-    (h v sum : List ℕ) (i : ℕ) {x : ℕ}
-    → i < length sum
-    → take i sum ≡ added sha256 i h v
-    → x ≡ plus 32 (get_or v i 0) (get_or h i 0)
-    → take (i + 1) (set sum i x) ≡ added sha256 (i + 1) h v
+-- the first n words of the sum
+added_to :
+    (h v r : List ℕ)
+    → ((k : ℕ) → k < length r → get_or r k 0 ≡ plus 32 (get_or v k 0) (get_or h k 0))
+    → (n : ℕ)
+    → n ≤ length r
+    → take n r ≡ added sha256 n h v
 unfolding added
-added_more h v sum i {x} here p e = filled sum i (i + 1) x here (omega arith) p ∙ rw (add-one, e)
+added_to h v r each zero fits = refl
+added_to h v r each (suc n) fits = take-suc r n 0 (omega arith) ∙ rw (added_to h v r each n (omega arith), each n (omega arith))
 
-pub compress_is :
-    (h block : List ℕ) {w v r : List ℕ}
-    → w ≡ scheduled sha256 block
-    → v ≡ rounds sha256 64 h w
+pub added_is :
+    (h v r : List ℕ)
+    → length r ≡ 8
+    → ((k : ℕ) → k < 8 → get_or r k 0 ≡ plus 32 (get_or v k 0) (get_or h k 0))
     → r ≡ added sha256 8 h v
-    → r ≡ compress sha256 h block
-unfolding compress constants
-compress_is h block p q r = rw (r, q, p)
+added_is h v r eight each =
+    sym (take_all 8 r (omega arith)) ∙ added_to h v r (λ k few. each k (omega arith)) 8 (omega arith)
 
--- one block more
+-- one block more, of the first n of k
 pub chain_more :
-    (h t : List ℕ) {v u : List ℕ} (i from to : ℕ)
-    → from ≡ 64 * i
-    → to ≡ from + 64
+    (h t : List ℕ) (k n i : ℕ) {v u : List ℕ}
+    → n ≤ k
+    → i < n
     → v ≡ chain sha256 h i t
-    → u ≡ compress sha256 v (take (to - from) (drop from t))
+    → u ≡ compress sha256 v (get_or (take n (first_chunks 64 k t)) i [])
     → u ≡ chain sha256 h (i + 1) t
 unfolding chain
-chain_more h t i from to e f p q =
-    let n : to - from ≡ 64 = omega arith in
-    rw (add-one, q, p, n, e)
+chain_more h t k n i le few p q =
+    rw (add-one, q, p, get_or-take n (first_chunks 64 k t) i [] few, chunk_at 64 k i t (omega arith))

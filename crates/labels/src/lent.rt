@@ -9,17 +9,14 @@ pub fn put(d: &mut Digest, part: &[u8])
     requires { d.old.len + length part.now < 2 ^ 61 }
     ensures { Grows d.old part.now d.new }
 {
-    let v = *d;
-    let n = v.absorb(part);
-    *d = n;
+    *d = d.absorb(part);
 }
 
 // The digest of the text so far and the part, as `absorb` gives it.
-pub fn absorbed(d: Digest, part: &[u8]) -> Digest
+pub fn absorbed(mut d: Digest, part: &[u8]) -> Digest
     requires { d.len + length part.now < 2 ^ 61 }
     ensures { Grows d part.now result }
 {
-    let mut v = d;
-    put(&mut v, part);
-    v
+    put(&mut d, part);
+    d
 }

@@ -1,12 +1,9 @@
 -- Laws of words spread out to bytes, and of the padding, in the code's own terms.
-use Prim.Native.Nat.{ℕ, zero, suc, ◌+◌, ◌-◌, ◌*◌, ◌≤◌, ◌<◌}
-use mathlib.Core.Path.{◌≡◌, refl, sym, ap, ◌∙◌}
-use mathlib.Core.List.{List, [], ◌∷◌, ◌++◌, append-nil, append_assoc}
-use native.Mathlib.Nat.{zero-add, suc-add}
-use native.Mathlib.Numerals.{add-one}
-use native.Mathlib.Omega.{arith}
-use lib.ListN.{length, take, drop, get_or, set, replicate, length-set, length-append, length-drop}
-use lib.Seq.{take-suc, take-append-add, take_all, set_at, append_snoc, paste, take-paste}
+use Rattle.std.proofs.Common.{ℕ, zero, suc, ◌+◌, ◌-◌, ◌≤◌, ◌<◌, ◌≡◌, refl, sym, ap, ap₂, ◌∙◌, List, [], ◌∷◌, ◌++◌, arith, length, take, drop, get_or, set, div-one, replicate, length-set, length-append, length-drop, take_all}
+use Rattle.std.proofs.Math.Seq.{take-append-add, set_at, append_snoc, paste, take-paste}
+use Rattle.std.proofs.lemmas.List.{drop-replicate, take-replicate}
+use Rattle.std.specs.Int.{w32, to_be_bytes, bytes_high_first}
+use Rattle.std.specs.List.{flat_map}
 use Rattle.words.specs.Words.{bytes, spread}
 use Rattle.words.specs.Sha256.{sha256}
 use Rattle.sha256.specs.Padding.{closing}
@@ -15,36 +12,26 @@ use Rattle.sha256.specs.Blocks.{length_bytes}
 abbrev blank : ℕ → List ℕ
 blank n = replicate n 0
 
--- zeros behind zeros, and before them
-drop_blank : (n m : ℕ) → drop n (blank (n + m)) ≡ blank m
-drop_blank zero m = rw zero-add
-drop_blank (suc n) m = rw suc-add (drop_blank n m)
+-- the library's bytes of a number
+pub bytes_are : (n x : ℕ) → bytes_high_first n x ≡ bytes n x
+unfolding bytes
+bytes_are zero x = refl
+bytes_are (suc zero) x = rw div-one
+bytes_are (suc (suc n)) x = rw (bytes_are (suc n) x)
 
-take_blank : (n m : ℕ) → take n (blank (n + m)) ≡ blank n
-take_blank zero m = refl
-take_blank (suc n) m = rw (suc-add, take_blank n m)
-
-spread_snoc : (k : ℕ) (l : List ℕ) (x : ℕ) → spread k (l ++ (x ∷ [])) ≡ spread k l ++ bytes k x
+-- the bytes of each word in turn
+pub spread_is :
+    (h : List ℕ) (words : List (List ℕ))
+    → length words ≡ length h
+    → ((k : ℕ) → k < length h → get_or words k [] ≡ to_be_bytes w32 (get_or h k 0))
+    → flat_map (λ x. x) words ≡ spread 4 h
 unfolding spread
-spread_snoc k [] x = append-nil (bytes k x)
-spread_snoc k (y ∷ l) x = rw (spread_snoc k l x, append_assoc)
-
--- one word more
-pub spread_more :
-    (h out four : List ℕ) (i : ℕ)
-    → i < length h
-    → 4 * i + 4 ≤ length out
-    → take (4 * i) out ≡ spread 4 (take i h)
-    → four ≡ bytes 4 (get_or h i 0)
-    → take (4 * (i + 1)) (paste out (4 * i) four (length four)) ≡ spread 4 (take (i + 1) h)
-spread_more h out four i p q e f =
-    let n : length four ≡ 4 = ap length f ∙ length_bytes 4 (get_or h i 0) in
-    let m : 4 * (i + 1) ≡ 4 * i + length four = omega arith in
-    let r : 4 * i ≤ length out = omega arith in
-    let whole : length four ≤ length four = omega arith in
-    rw m
-    (take-paste out (4 * i) four (length four) r whole
-    ∙ rw (e, take_all (length four) four whole, add-one, take-suc h i 0 p, spread_snoc, f))
+spread_is [] [] same each = refl
+spread_is [] (w ∷ words) same each = absurd (omega arith)
+spread_is (x ∷ h) [] same each = absurd (omega arith)
+spread_is (x ∷ h) (w ∷ words) same each =
+    ap₂ (λ (a b : List ℕ). a ++ b) (each 0 (omega arith) ∙ bytes_are 4 x)
+    (spread_is h words (omega arith) (λ k few. each (suc k) (omega arith)))
 
 -- 128 behind the last bytes of a text, in an area of zeros
 marked :
@@ -53,9 +40,8 @@ marked :
     → area ≡ set (last ++ drop (length last) (blank 128)) (length last) 128
     → area ≡ (last ++ (0x80 ∷ [])) ++ blank (127 - length last)
 marked last area few e =
-    let n : 128 ≡ length last + suc (127 - length last) = omega arith in
-    let behind : drop (length last) (blank 128) ≡ 0 ∷ blank (127 - length last) =
-    ap (λ (m : ℕ). drop (length last) (blank m)) n ∙ drop_blank (length last) (suc (127 - length last)) in
+    let n : 128 - length last ≡ suc (127 - length last) = omega arith in
+    let behind : drop (length last) (blank 128) ≡ 0 ∷ blank (127 - length last) = drop-replicate (length last) 128 0 ∙ ap blank n in
     e
     ∙ ap (λ (l : List ℕ). set (last ++ l) (length last) 128) behind
     ∙ set_at last 0 (blank (127 - length last)) 128 (length last) refl
@@ -69,8 +55,7 @@ front :
     → take (length last + 1 + k) area ≡ (last ++ (0x80 ∷ [])) ++ blank k
 front last area k few e =
     let n : length last + 1 + k ≡ length (last ++ (0x80 ∷ [])) + k = omega (arith, length-append last (0x80 ∷ [])) in
-    let m : 127 - length last ≡ k + (127 - length last - k) = omega arith in
-    rw (n, e, take-append-add, m, take_blank)
+    rw (n, e, take-append-add, take-replicate {X = ℕ} k (127 - length last) 0 (omega arith))
 
 -- the last bytes of a text, 128, zeros and the length field, as they are laid into an area of zeros
 pub closing_laid :

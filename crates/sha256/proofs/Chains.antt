@@ -1,10 +1,5 @@
 -- Laws of the chain of hash values over a text's blocks, for every kind.
-use Prim.Native.Nat.{ℕ, zero, suc, ◌+◌, ◌*◌}
-use mathlib.Core.Path.{◌≡◌, refl}
-use mathlib.Core.List.{List}
-use native.Mathlib.Nat.{add-zero, add-suc, mul-suc, mul-add}
-use lib.ListN.{take, drop}
-use lib.Seq.{drop-drop}
+use Rattle.std.proofs.Common.{ℕ, zero, suc, ◌+◌, ◌*◌, ◌≡◌, refl, List, take, drop, add-zero, add-suc, mul-suc, mul-add, drop-drop}
 use Rattle.words.specs.Kind.{Kind, size}
 use Rattle.compression.specs.Compression.{chain}
 use Rattle.lists.specs.PartsLaws.{same_part, same_front}

@@ -1,11 +1,6 @@
 -- A running digest of SHA-256 that is finished gives the SHA-256 of the text that it holds.
-use Prim.Native.Nat.{ℕ, ◌+◌, ◌-◌, ◌*◌, ◌/◌, ◌≤◌}
-use mathlib.Core.Path.{◌≡◌, sym, ap, ◌∙◌}
-use mathlib.Core.List.{List, [], ◌∷◌, ◌++◌}
-use native.Mathlib.Omega.{arith}
-use lib.ListN.{length, take, drop, replicate, length-append}
-use lib.Seq.{take-take, take-append-le, drop-append-le}
-use native.Mathlib.Nat.{le_refl}
+use Rattle.std.proofs.Common.{ℕ, ◌+◌, ◌-◌, ◌*◌, ◌/◌, ◌≤◌, ◌≡◌, sym, ap, ◌∙◌, List, [], ◌∷◌, ◌++◌, arith, length, take, drop, replicate, length-append, take-take, le_refl}
+use Rattle.std.proofs.Math.Seq.{take-append-le, drop-append-le}
 use Rattle.words.specs.Words.{bytes, spread}
 use Rattle.compression.specs.Compression.{chain}
 use Rattle.sha256.specs.Padding.{zeros, closing, padded, blocks}

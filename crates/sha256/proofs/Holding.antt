@@ -1,12 +1,6 @@
 -- What a running digest holds, before and after a part, for every kind.
-use Prim.Native.Nat.{ℕ, suc, ◌+◌, ◌-◌, ◌*◌, ◌≤◌, ◌<◌}
-use mathlib.Core.Path.{◌≡◌, sym, ap, ◌∙◌}
-use mathlib.Core.List.{List, ◌++◌, append-nil}
-use native.Mathlib.Nat.{mul-suc, mul-add, mul-one}
-use native.Mathlib.Numerals.{add-one}
-use native.Mathlib.Omega.{arith}
-use lib.ListN.{length, take, drop, length-append, length-drop, drop_of_length-le}
-use lib.Seq.{take_all, take-append-le, drop-append-le, take-append-add, drop-append-add, length-take-le, drop-drop, take_at, paste, length-paste, take-paste}
+use Rattle.std.proofs.Common.{ℕ, suc, ◌+◌, ◌-◌, ◌*◌, ◌≤◌, ◌<◌, ◌≡◌, sym, ap, ◌∙◌, List, ◌++◌, append-nil, arith, length, take, drop, mul-suc, mul-add, mul-one, add-one, length-append, length-drop, drop_of_length-le, take_all, length-take-le, drop-drop, take_at}
+use Rattle.std.proofs.Math.Seq.{take-append-le, drop-append-le, take-append-add, drop-append-add, paste, length-paste, take-paste}
 use Rattle.words.specs.Kind.{Kind, size}
 use Rattle.compression.specs.Compression.{chain}
 use Rattle.sha256.specs.Running.{Held}

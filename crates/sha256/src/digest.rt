@@ -14,13 +14,12 @@ pub struct Digest {
 }
 
 // The tail with a part put in at `at`.
-fn filled(tail: [u8; 64], at: usize, part: &[u8]) -> [u8; 64]
+fn filled(mut tail: [u8; 64], at: usize, part: &[u8]) -> [u8; 64]
     requires { at + length part.now ≤ 64 }
     ensures { result ≡ paste tail at part.now (length part.now) }
 {
-    let mut t = tail;
-    t[at..at + part.len()].copy_from_slice(part);
-    t
+    tail[at..at + part.len()].copy_from_slice(part);
+    tail
 }
 
 impl Digest {
@@ -28,13 +27,12 @@ impl Digest {
     pub fn new() -> Digest
         ensures { Holds result [] }
     {
-        let state = [
-            0x6a09e667, 0xbb67ae85, 0x3c6ef372, 0xa54ff53a, 0x510e527f, 0x9b05688c, 0x1f83d9ab,
-            0x5be0cd19,
-        ];
         Digest {
-            state,
-            tail: [0u8; 64],
+            state: [
+                0x6a09e667, 0xbb67ae85, 0x3c6ef372, 0xa54ff53a, 0x510e527f, 0x9b05688c, 0x1f83d9ab,
+                0x5be0cd19,
+            ],
+            tail: [0; 64],
             len: 0,
         }
     }
@@ -46,20 +44,17 @@ impl Digest {
     {
         let rest = self.len % 64;
         let room = 64 - rest;
-        let n = part.len();
-        let len = self.len + n;
-        let tail = self.tail;
-        let state = self.state;
-        if n < room {
-            let tail = filled(tail, rest, part);
-            return Digest { state, tail, len };
+        let len = self.len + part.len();
+        if part.len() < room {
+            let tail = filled(self.tail, rest, part);
+            return Digest { tail, len, ..self };
         }
-        let block = filled(tail, rest, &part[..room]);
-        let whole = (n - room) / 64;
-        let state = compression::chain(state, &block, 1);
-        let state = compression::chain(state, &part[room..], whole);
-        let from = room + 64 * whole;
-        let tail = filled(block, 0, &part[from..]);
+        let (first, after) = part.split_at(room);
+        let block = filled(self.tail, rest, first);
+        let whole = after.len() / 64;
+        let state = compression::chain(self.state, &block, 1);
+        let state = compression::chain(state, after, whole);
+        let tail = filled(block, 0, &after[64 * whole..]);
         Digest { state, tail, len }
     }
 
@@ -70,12 +65,8 @@ impl Digest {
     {
         let rest = self.len % 64;
         let n = padding::blocks(rest);
-        let end = 64 * n;
-        let bits = (self.len as u64) * 8;
-        let tail = self.tail;
-        let area = padding::closed(tail, rest, end, bits);
-        let state = self.state;
-        let h = compression::chain(state, &area, n);
-        octets::spread(h)
+        let bits = self.len as u64 * 8;
+        let area = padding::closed(self.tail, rest, 64 * n, bits);
+        octets::spread(compression::chain(self.state, &area, n))
     }
 }

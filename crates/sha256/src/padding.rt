@@ -3,8 +3,6 @@ ghost use Rattle.std.specs.Prelude.{◌≡◌, ◌+◌, ◌-◌, ◌/◌, ◌^�
 ghost use Rattle.words.specs.Sha256.{sha256};
 ghost use Rattle.sha256.specs.Padding.{closing};
 
-use crate::octets;
-
 // The blocks that a text of n bytes takes.
 pub fn blocks(n: usize) -> usize
     requires { n < 2 ^ 61 }
@@ -21,8 +19,6 @@ pub(crate) fn closed(tail: [u8; 64], rest: usize, end: usize, bits: u64) -> [u8;
     let mut area = [0u8; 128];
     area[..rest].copy_from_slice(&tail[..rest]);
     area[rest] = 0x80;
-    let at = end - 8;
-    let length = octets::field(bits);
-    area[at..end].copy_from_slice(&length);
+    area[end - 8..end].copy_from_slice(&bits.to_be_bytes());
     area
 }

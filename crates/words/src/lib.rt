@@ -1,41 +1,48 @@
 // The words of SHA-256: FIPS 180-4, the functions of sections 3.2 and 4.1.2 and the constants of 4.2.2.
 #![tactic(auto)]
 
-ghost use Rattle.std.specs.Prelude.{◌≡◌, ◌+◌, ◌≤◌, ◌<◌, length, take, drop};
+ghost use Rattle.std.specs.Prelude.{◌≡◌, ◌<◌, slice_index};
 ghost use Rattle.words.specs.Words.{ch, maj, number};
-ghost use Rattle.words.specs.Words as Words;
 ghost use Rattle.words.specs.Sha256.{three, two, constants};
 
-// ROTR n (x): the rotation to the right.
-fn rotr(x: u32, n: u32) -> u32
-    requires { (0 < n) × (n < 32) }
-    ensures { result ≡ Words.rotr 32 n x }
+// (4.4) and (4.5): three rotations.
+fn three<const A: u32, const B: u32, const C: u32>(x: u32) -> u32
+    requires { (0 < A) × (A < 32) × (0 < B) × (B < 32) × (0 < C) × (C < 32) }
+    ensures { result ≡ three A B C x }
 {
-    (x >> n) | (x << (32 - n))
+    x.rotate_right(A) ^ x.rotate_right(B) ^ x.rotate_right(C)
+}
+
+// (4.6) and (4.7): two rotations and a shift.
+fn two<const A: u32, const B: u32, const C: u32>(x: u32) -> u32
+    requires { (0 < A) × (A < 32) × (0 < B) × (B < 32) × (C < 32) }
+    ensures { result ≡ two A B C x }
+{
+    x.rotate_right(A) ^ x.rotate_right(B) ^ (x >> C)
 }
 
 pub fn sum0(x: u32) -> u32
     ensures { result ≡ three 2 13 22 x }
 {
-    rotr(x, 2) ^ rotr(x, 13) ^ rotr(x, 22)
+    three::<2, 13, 22>(x)
 }
 
 pub fn sum1(x: u32) -> u32
     ensures { result ≡ three 6 11 25 x }
 {
-    rotr(x, 6) ^ rotr(x, 11) ^ rotr(x, 25)
+    three::<6, 11, 25>(x)
 }
 
 pub fn sigma0(x: u32) -> u32
     ensures { result ≡ two 7 18 3 x }
 {
-    rotr(x, 7) ^ rotr(x, 18) ^ (x >> 3)
+    two::<7, 18, 3>(x)
 }
 
 pub fn sigma1(x: u32) -> u32
     ensures { result ≡ two 17 19 10 x }
 {
-    rotr(x, 17) ^ rotr(x, 19) ^ (x >> 10)
+    two::<17, 19, 10>(x)
 }
 
 pub fn choice(x: u32, y: u32, z: u32) -> u32
@@ -50,23 +57,16 @@ pub fn majority(x: u32, y: u32, z: u32) -> u32
     (x & y) ^ (x & z) ^ (y & z)
 }
 
-fn wide(b: u8) -> u32
-    ensures { (result ≡ b) × (result < 256) }
+// The big-endian word of four bytes.
+#[tactic(auto, using(crate::proofs::Functions::word_is))]
+pub fn word(bytes: [u8; 4]) -> u32
+    ensures { result ≡ number 0 bytes }
 {
-    b as u32
+    u32::from_be_bytes(bytes)
 }
 
-// The big-endian word of the four bytes at `at`.
-pub fn word(b: &[u8], at: usize) -> u32
-    requires { at + 4 ≤ length b.now }
-    ensures { result ≡ number 0 (take 4 (drop at b.now)) }
-{
-    let high = wide(b[at]) * 16777216 + wide(b[at + 1]) * 65536;
-    high + wide(b[at + 2]) * 256 + wide(b[at + 3])
-}
-
-// Section 4.2.2.
-const K: [u32; 64] = [
+// Section 4.2.2. A static, which is read where it stands.
+static K: [u32; 64] = [
     0x428a2f98, 0x71374491, 0xb5c0fbcf, 0xe9b5dba5, 0x3956c25b, 0x59f111f1, 0x923f82a4, 0xab1c5ed5,
     0xd807aa98, 0x12835b01, 0x243185be, 0x550c7dc3, 0x72be5d74, 0x80deb1fe, 0x9bdc06a7, 0xc19bf174,
     0xe49b69c1, 0xefbe4786, 0x0fc19dc6, 0x240ca1cc, 0x2de92c6f, 0x4a7484aa, 0x5cb0a9dc, 0x76f988da,
@@ -77,9 +77,11 @@ const K: [u32; 64] = [
     0x748f82ee, 0x78a5636f, 0x84c87814, 0x8cc70208, 0x90befffa, 0xa4506ceb, 0xbef9a3f7, 0xc67178f2,
 ];
 
-// The constants, bound once for all blocks of a text: a read of K itself lays all of K down.
-pub fn table() -> [u32; 64]
-    ensures { result ≡ constants }
+// The round's constant.
+#[tactic(auto, unfolding(crate::specs::Sha256::constants))]
+pub fn constant(t: usize) -> u32
+    requires { t < 64 }
+    ensures { result ≡ slice_index constants t }
 {
-    K
+    K[t]
 }

@@ -1,5 +1,4 @@
-use mathlib.Core.List.{[]}
-use native.Mathlib.Omega.{arith}
+use Rattle.std.proofs.Common.{[], arith}
 use Rattle.labels.proofs.label.Goals as goal
 
 pub finish-requires : goal.finish-requires

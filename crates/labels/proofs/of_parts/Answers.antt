@@ -1,6 +1,4 @@
-use mathlib.Core.List.{[]}
-use lib.ListN.{length-append}
-use native.Mathlib.Omega.{arith}
+use Rattle.std.proofs.Common.{[], arith, length-append}
 use Rattle.labels.proofs.of_parts.Goals as goal
 
 pub absorbed-requires-2 : goal.absorbed-requires-2

@@ -1,47 +1,26 @@
-use Prim.Native.Nat.{ℕ, ◌+◌, ◌-◌, ◌*◌, ◌/◌, ◌%◌, ◌≤◌, ◌<◌}
-use mathlib.Core.Path.{ap, ◌∙◌}
-use mathlib.Core.List.{List}
-use native.Mathlib.Omega.{arith}
-use lib.ListN.{length, take}
-use lib.Seq.{length-take-le, paste}
-use Rattle.compression.specs.Compression.{chain}
+use Rattle.std.proofs.Common.{◌≡◌, ℕ, ◌+◌, ◌-◌, ◌*◌, ◌/◌, ◌%◌, List, length, take, drop, ap, ◌∙◌, arith, drop-drop}
+use Rattle.std.proofs.Math.Seq.{paste}
 use Rattle.words.specs.Sha256.{sha256}
 use Rattle.lists.specs.PartsLaws.{tail_part}
 use Rattle.sha256.proofs.Holding.{held_short, held_long}
 use Rattle.sha256.proofs.digest.Digest.absorb.Goals as goal
 
--- the room in the last block of a text of len bytes, and the whole blocks of n bytes behind that room
-abbrev room_of : ℕ → ℕ
-room_of len = 64 - len % 64
-
-abbrev whole_of : ℕ → ℕ → ℕ
-whole_of len n = (n - room_of len) / 64
-
--- they are of the part, and less than a block is left of it
-blocks-in : (len n : ℕ) → room_of len ≤ n → room_of len + 64 * whole_of len n ≤ n
-blocks-in len n there = omega (arith, there)
-
-blocks-over : (len n : ℕ) → room_of len ≤ n → n < room_of len + 64 * whole_of len n + 64
-blocks-over len n there = omega (arith, there)
-
-pub returns-then-n-room : goal.returns-then-n-room
-returns-then-n-room c =
-    let a = c.args in
-    let rest : ℕ = a.self.len % 64 in
-    λ t d.
-    held_short sha256 d a.part.now rest (omega (arith, d.few, d.cut, d.long)) (omega (arith, c.if-n-room.true)) c.filled-tail.ensures
+pub returns-then-part-room : goal.returns-then-part-room
+returns-then-part-room c = λ t d.
+    held_short sha256 d c.args.part.now (c.args.self.len % 64) (omega (arith, d.few, d.cut, d.long)) (omega (arith, c.if-part-room.true)) c.filled-tail.ensures
 
 pub returns : goal.returns
-returns c =
-    let a = c.args in
-    let part : List ℕ = a.part.now in
-    let rest : ℕ = a.self.len % 64 in
-    let room : ℕ = room_of a.self.len in
-    let w : ℕ = whole_of a.self.len (length part) in
-    let there : room ≤ length part = c.if-n-room.false in
-    λ t d.
-    held_long sha256 d part rest room w (omega (arith, d.few, d.cut, d.long)) (omega arith) there (blocks-in _ _ there) (blocks-over _ _ there)
-    (c.filled-block.ensures ∙ ap (paste _ rest (take room part)) (length-take-le room part there))
+returns c = λ t d.
+    let part : List ℕ = c.args.part.now in
+    let rest : ℕ = c.args.self.len % 64 in
+    let room : ℕ = 64 - rest in
+    let after : List ℕ = c.split_at.result.1.now in
+    let w : ℕ = length after / 64 in
+    let cut : length after + room ≡ length part = omega (arith, c.split_at.ensures.back_len) in
+    let left : take (length after - 64 * w) (drop (64 * w) after) ≡ drop (room + 64 * w) part =
+    tail_part after (64 * w) ∙ ap (drop (64 * w)) c.split_at.ensures.back ∙ drop-drop (64 * w) room part in
+    held_long sha256 d part rest room w (omega (arith, d.few, d.cut, d.long)) (omega arith) (omega arith) (omega arith) (omega arith)
+    (cc)
     c.chain-state.ensures
-    (c.chain-state-2.ensures ∙ ap (chain sha256 _ w) (tail_part part room))
-    (c.filled-tail-2.ensures ∙ ap (λ (l : List ℕ). paste c.filled-block.result 0 l (length l)) (tail_part part (room + 64 * w)))
+    (cc)
+    (c.filled-tail-2.ensures ∙ ap (λ (l : List ℕ). paste c.filled-block.result 0 l (length l)) left)

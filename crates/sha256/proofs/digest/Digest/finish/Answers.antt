@@ -1,6 +1,4 @@
-use Prim.Native.Nat.{ℕ, ◌*◌, ◌%◌}
-use mathlib.Core.Path.{refl, ◌∙◌}
-use native.Mathlib.Omega.{arith}
+use Rattle.std.proofs.Common.{ℕ, ◌*◌, ◌%◌, refl, ◌∙◌, arith}
 use Rattle.sha256.proofs.Finishing.{finished}
 use Rattle.sha256.proofs.digest.Digest.finish.Goals as goal
 
@@ -14,4 +12,4 @@ returns c =
     c.spread.ensures
     ∙ finished d closed.result rest n.result (a.self.len * 8) (omega (arith, d.few, d.cut, d.long)) n.ensures refl
     closed.ensures
-    c.chain-h.ensures
+    c.chain.ensures

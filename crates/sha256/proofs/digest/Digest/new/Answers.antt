@@ -1,7 +1,6 @@
-use mathlib.Core.Path.{refl}
+use Rattle.std.proofs.Common.{refl, rules}
 use Rattle.compression.specs.Compression.{chain}
 use Rattle.words.specs.Sha256.{start}
-use borrow.Author.Rules.{rules}
 use Rattle.sha256.proofs.digest.Digest.new.Goals as goal
 
 pub returns : goal.returns

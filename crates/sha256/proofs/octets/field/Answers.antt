@@ -1,7 +1,0 @@
-use native.Mathlib.Nat.{div-one}
-use Rattle.words.specs.Words.{bytes}
-use Rattle.sha256.proofs.octets.field.Goals as goal
-
-pub returns : goal.returns
-unfolding bytes
-returns c = rw div-one
