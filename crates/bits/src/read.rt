@@ -3,14 +3,11 @@ ghost use Rattle.std.specs.Prelude.{◌≡◌, ◌+◌, ◌*◌, ◌≤◌, ◌<
 ghost use Rattle.bits.specs.Bits.{bits_of, octets};
 ghost use Rattle.bits.specs.Reads.{FieldGives};
 
-// The byte at i, and 0 past the end.
+// The byte at i, and 0 past the end. As in utf8, for another type: one for both would be no plainer.
 fn byte(s: &[u8], i: usize) -> usize
     ensures { (result ≡ get_or s.now i 0) × (result < 256) }
 {
-    if i < s.len() {
-        return s[i] as usize;
-    }
-    0
+    s.get(i).copied().map_or(0, usize::from)
 }
 
 // The field of n bits that begins at bit `at`: three bytes hold it, wherever in a byte it begins.
@@ -48,11 +45,9 @@ fn shift_out(s: &[u8], i: usize, off: usize, dst: &mut [u8])
     ensures { dst.new ≡ octets (length dst.old) (drop (8 * i + off) (bits_of s.now)) }
 {
     let below = 8 - off;
-    let mut j = 0;
-    while j < dst.len() {
+    for (j, d) in dst.iter_mut().enumerate() {
         let first = byte(s, i + j);
         let second = byte(s, i + j + 1);
-        dst[j] = (((first * 256 + second) >> below) % 256) as u8;
-        j += 1;
+        *d = (((first * 256 + second) >> below) % 256) as u8;
     }
 }

@@ -1,77 +1,77 @@
 // The pairs of a letter and a mark that compose within the repertoire.
-ghost use Rattle.std.specs.Prelude.{◌≡◌, ◌&&◌, ◌+◌, ◌<◌, eqb, length, get_or};
-ghost use Rattle.nfc.specs.Pairs.{flat, pairs};
-ghost use Rattle.characters.specs.Clauses.{Start};
-ghost use Rattle.nfc.specs.Joining.{joined};
+ghost use Rattle.std.specs.Prelude.{◌≡◌, ◌==◌, ◌&&◌, find};
+ghost use Rattle.std.specs.Option.{option_map};
+ghost use Rattle.characters.specs.Clauses.{Joins};
 
-// Letter, mark and composed letter, row after row: by mark, then by letter. `tools/tables code` prints it.
-const PAIRS: [u16; 159] = [
-    0x41, 0x300, 0xC0, 0x45, 0x300, 0xC8, 0x49, 0x300, 0xCC, 0x4F, 0x300, 0xD2, 0x55, 0x300, 0xD9,
-    0x61, 0x300, 0xE0, 0x65, 0x300, 0xE8, 0x69, 0x300, 0xEC, 0x6F, 0x300, 0xF2, 0x75, 0x300, 0xF9,
-    0x41, 0x301, 0xC1, 0x45, 0x301, 0xC9, 0x49, 0x301, 0xCD, 0x4F, 0x301, 0xD3, 0x55, 0x301, 0xDA,
-    0x59, 0x301, 0xDD, 0x61, 0x301, 0xE1, 0x65, 0x301, 0xE9, 0x69, 0x301, 0xED, 0x6F, 0x301, 0xF3,
-    0x75, 0x301, 0xFA, 0x79, 0x301, 0xFD, 0x41, 0x302, 0xC2, 0x45, 0x302, 0xCA, 0x49, 0x302, 0xCE,
-    0x4F, 0x302, 0xD4, 0x55, 0x302, 0xDB, 0x61, 0x302, 0xE2, 0x65, 0x302, 0xEA, 0x69, 0x302, 0xEE,
-    0x6F, 0x302, 0xF4, 0x75, 0x302, 0xFB, 0x41, 0x303, 0xC3, 0x4E, 0x303, 0xD1, 0x4F, 0x303, 0xD5,
-    0x61, 0x303, 0xE3, 0x6E, 0x303, 0xF1, 0x6F, 0x303, 0xF5, 0x41, 0x308, 0xC4, 0x45, 0x308, 0xCB,
-    0x49, 0x308, 0xCF, 0x4F, 0x308, 0xD6, 0x55, 0x308, 0xDC, 0x61, 0x308, 0xE4, 0x65, 0x308, 0xEB,
-    0x69, 0x308, 0xEF, 0x6F, 0x308, 0xF6, 0x75, 0x308, 0xFC, 0x79, 0x308, 0xFF, 0x41, 0x30A, 0xC5,
-    0x61, 0x30A, 0xE5, 0x43, 0x327, 0xC7, 0x63, 0x327, 0xE7,
+// Letter, mark and composed letter: by mark, then by letter. `tools/tables code` prints the rows.
+static PAIRS: [(char, char, char); 53] = [
+    ('A', '\u{300}', 'À'),
+    ('E', '\u{300}', 'È'),
+    ('I', '\u{300}', 'Ì'),
+    ('O', '\u{300}', 'Ò'),
+    ('U', '\u{300}', 'Ù'),
+    ('a', '\u{300}', 'à'),
+    ('e', '\u{300}', 'è'),
+    ('i', '\u{300}', 'ì'),
+    ('o', '\u{300}', 'ò'),
+    ('u', '\u{300}', 'ù'),
+    ('A', '\u{301}', 'Á'),
+    ('E', '\u{301}', 'É'),
+    ('I', '\u{301}', 'Í'),
+    ('O', '\u{301}', 'Ó'),
+    ('U', '\u{301}', 'Ú'),
+    ('Y', '\u{301}', 'Ý'),
+    ('a', '\u{301}', 'á'),
+    ('e', '\u{301}', 'é'),
+    ('i', '\u{301}', 'í'),
+    ('o', '\u{301}', 'ó'),
+    ('u', '\u{301}', 'ú'),
+    ('y', '\u{301}', 'ý'),
+    ('A', '\u{302}', 'Â'),
+    ('E', '\u{302}', 'Ê'),
+    ('I', '\u{302}', 'Î'),
+    ('O', '\u{302}', 'Ô'),
+    ('U', '\u{302}', 'Û'),
+    ('a', '\u{302}', 'â'),
+    ('e', '\u{302}', 'ê'),
+    ('i', '\u{302}', 'î'),
+    ('o', '\u{302}', 'ô'),
+    ('u', '\u{302}', 'û'),
+    ('A', '\u{303}', 'Ã'),
+    ('N', '\u{303}', 'Ñ'),
+    ('O', '\u{303}', 'Õ'),
+    ('a', '\u{303}', 'ã'),
+    ('n', '\u{303}', 'ñ'),
+    ('o', '\u{303}', 'õ'),
+    ('A', '\u{308}', 'Ä'),
+    ('E', '\u{308}', 'Ë'),
+    ('I', '\u{308}', 'Ï'),
+    ('O', '\u{308}', 'Ö'),
+    ('U', '\u{308}', 'Ü'),
+    ('a', '\u{308}', 'ä'),
+    ('e', '\u{308}', 'ë'),
+    ('i', '\u{308}', 'ï'),
+    ('o', '\u{308}', 'ö'),
+    ('u', '\u{308}', 'ü'),
+    ('y', '\u{308}', 'ÿ'),
+    ('A', '\u{30A}', 'Å'),
+    ('a', '\u{30A}', 'å'),
+    ('C', '\u{327}', 'Ç'),
+    ('c', '\u{327}', 'ç'),
 ];
 
-// The table, bound once a title: a read of PAIRS itself lays all of it down.
-pub fn table() -> [u16; 159]
-    ensures { result ≡ flat pairs }
+// The letter that a letter and a mark compose to.
+pub fn composite(letter: char, mark: char) -> Option<char>
+    ensures { Joins letter mark result }
 {
-    PAIRS
+    sought(&PAIRS, letter, mark)
 }
 
-// No letter: what a letter and a mark make that do not compose.
-pub const NONE: u32 = 0;
-
-fn wide(x: u16) -> u32
-    ensures { result ≡ x }
+// What they compose to in some rows.
+fn sought(rows: &[(char, char, char)], letter: char, mark: char) -> Option<char>
+    ensures { result ≡ option_map (λ p. p.2) (find (λ p. (p.1 == mark) && (p.0 == letter)) rows.now) }
 {
-    x as u32
-}
-
-// Where the rows of a mark start in the table.
-fn start(mark: u32) -> usize
-    ensures { Start mark result }
-{
-    match mark {
-        0x301 => 30,
-        0x302 => 66,
-        0x303 => 96,
-        0x308 => 114,
-        0x30A => 147,
-        0x327 => 153,
-        _ => 0,
-    }
-}
-
-// Whether the row at `i` is that of a letter and a mark.
-fn is_row(table: &[u16], i: usize, letter: u32, mark: u32) -> bool
-    requires { i + 2 < length table.now }
-    ensures { result ≡ (eqb (get_or table.now (i + 1) 0) mark && eqb (get_or table.now i 0) letter) }
-{
-    if wide(table[i + 1]) != mark {
-        return false;
-    }
-    wide(table[i]) == letter
-}
-
-// The letter that a letter and a mark compose to, or NONE.
-pub fn composite(table: &[u16], letter: u32, mark: u32) -> u32
-    requires { table.now ≡ flat pairs }
-    ensures { result ≡ joined letter mark }
-{
-    let mut i = start(mark);
-    while i < table.len() {
-        if is_row(table, i, letter, mark) {
-            return wide(table[i + 2]);
-        }
-        i += 3;
-    }
-    NONE
+    rows.iter()
+        .find(|p| p.1 == mark && p.0 == letter)
+        .map(|p| p.2)
 }

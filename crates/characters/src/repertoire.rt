@@ -1,41 +1,22 @@
 // The repertoire of titles.
 ghost use Rattle.std.specs.Prelude.{◌≡◌};
-ghost use Rattle.nfc.specs.Repertoire.{plain, member, is_mark};
+ghost use Rattle.nfc.specs.Repertoire.{plain, is_mark};
 
 // In the repertoire, and no mark.
-pub fn is_plain(c: u32) -> bool
+#[tactic(auto, unfolding(nfc::specs::Repertoire::plain, nfc::specs::Utf8::within))]
+pub fn is_plain(c: char) -> bool
     ensures { result ≡ plain c }
 {
-    if c < 0x20 {
-        return false;
-    }
-    if c <= 0x7E {
-        return true;
-    }
-    if c < 0xA0 {
-        return false;
-    }
-    c <= 0xFF
+    matches!(c, ' '..='~' | '\u{A0}'..='\u{FF}')
 }
 
-const MARKS: [u32; 7] = [0x300, 0x301, 0x302, 0x303, 0x308, 0x30A, 0x327];
+const MARKS: [char; 7] = [
+    '\u{300}', '\u{301}', '\u{302}', '\u{303}', '\u{308}', '\u{30A}', '\u{327}',
+];
 
-fn is_member(list: &[u32], c: u32) -> bool
-    ensures { result ≡ member list.now c }
-{
-    let mut i = 0;
-    while i < list.len() {
-        if list[i] == c {
-            return true;
-        }
-        i += 1;
-    }
-    false
-}
-
-pub fn is_mark(c: u32) -> bool
+#[tactic(auto, unfolding(nfc::specs::Repertoire::is_mark, nfc::specs::Repertoire::member, nfc::specs::Repertoire::marks))]
+pub fn is_mark(c: char) -> bool
     ensures { result ≡ is_mark c }
 {
-    let marks = MARKS;
-    is_member(&marks, c)
+    MARKS.contains(&c)
 }

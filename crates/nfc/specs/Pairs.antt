@@ -11,11 +11,6 @@ unfoldable pub found : List Pair → ℕ → ℕ → ℕ
 found [] l m = 0
 found (pair letter mark whole ∷ ps) l m = cond (eqb mark m && eqb letter l) whole (found ps l m)
 
--- a table as one list: letter, mark, whole, and so on
-unfoldable pub flat : List Pair → List ℕ
-flat [] = []
-flat (pair letter mark whole ∷ ps) = letter ∷ mark ∷ whole ∷ flat ps
-
 unfoldable pub pairs : List Pair
 pairs =
     pair 0x41 0x300 0xC0 ∷

@@ -12,11 +12,9 @@ pub fn put(kind: usize, text: &[u8], at: usize, work: &mut [u8]) -> usize
     ensures { (result ≡ at + head_bytes + length text.now) × (take (at + head_bytes + length text.now) work.new ≡ take at work.old ++ piece (record { kind = kind; text = text.now })) }
 {
     let size = text.len();
-    work[at] = (kind / 256) as u8;
-    work[at + 1] = (kind % 256) as u8;
-    work[at + 2] = (size / 256) as u8;
-    work[at + 3] = (size % 256) as u8;
     let from = at + HEAD;
+    work[at..at + 2].copy_from_slice(&(kind as u16).to_be_bytes());
+    work[at + 2..from].copy_from_slice(&(size as u16).to_be_bytes());
     work[from..from + size].copy_from_slice(text);
     from + size
 }

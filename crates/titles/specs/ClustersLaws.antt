@@ -1,6 +1,6 @@
 -- A title's clusters, one at a time, from the bytes at a place.
 use Rattle.std.specs.Prelude.{◌≡◌, refl, true, false, List, [], ◌∷◌, ℕ, ◌+◌, ◌≤◌, ◌<◌, ltb, eqb, length, get_or, drop}
-use Rattle.std.proofs.Common.{◌∙◌, ap, arith, length-drop, drop_of_length-le, ltb-true, ltb-false, eq-eqb, ne_eqb, eqb-true}
+use Rattle.std.proofs.Common.{◌∙◌, ap, arith, add-zero, get_or-drop, length-drop, drop_of_length-le, ltb-true, ltb-false, eq-eqb, ne_eqb, eqb-true}
 use Rattle.std.proofs.Math.Seq.{drop-drop}
 use Rattle.lists.specs.TestsLaws.{either}
 use Rattle.nfc.specs.Utf8.{ill, width, character, front, decode}
@@ -52,12 +52,19 @@ lead b t p q =
     let f = rw (encode_2 m (omega arith) (omega arith)) at e in
     omega (arith, ap (λ (l : List ℕ). get_or l 0 0) f)
 
-pub no_mark : (l : ℕ) (s : List ℕ) → (get_or s 0 0 ≡ 0xCC → ⊥) → joined l (front s) ≡ 0
+no_mark : (l : ℕ) (s : List ℕ) → (get_or s 0 0 ≡ 0xCC → ⊥) → joined l (front s) ≡ 0
 no_mark l [] off = eqb-true _ 0 (either (eqb (joined l (front [])) 0) (λ p. p) (λ p. absurd (omega (arith, joins_some l [] p))))
 no_mark l (b ∷ t) off =
     eqb-true _ 0
     (either (eqb (joined l (front (b ∷ t))) 0) (λ p. p)
     (λ p. absurd (off (lead b t (mark_bounds l (front (b ∷ t)) p).0 (mark_bounds l (front (b ∷ t)) p).1))))
+
+pub no_mark_at : (l : ℕ) (s : List ℕ) (at : ℕ) → (get_or s at 0 ≡ 0xCC → ⊥) → joined l (front (drop at s)) ≡ 0
+no_mark_at l s at off = no_mark l (drop at s) (λ e. off (rw (get_or-drop, add-zero) at e))
+
+-- what is ill-formed is no mark
+pub no_mark_ill : (l m : ℕ) → m ≡ ill → joined l m ≡ 0
+no_mark_ill l m e = eqb-true _ 0 (either (eqb (joined l m) 0) (λ p. p) (λ p. absurd (omega (arith, (mark_bounds l m p).1))))
 
 pub clusters_bad : (c : ℕ) (cs : List ℕ) → plain c ≡ false → clusters (c ∷ cs) ≡ bad c ∷ []
 unfolding clusters

@@ -7,39 +7,35 @@ mod scan;
 ghost use Rattle.std.specs.Prelude.{◌≡◌};
 ghost use Rattle.outcomes.specs.Outcome.{Leaves};
 ghost use Rattle.titles.specs.Compose.{compose_of, composed_text};
+ghost use Rattle.titles.specs.Scan.{answer_of};
 
-use characters::{pairs, repertoire};
 pub use composed::Composed;
-use outcomes::Refusal;
+use outcomes::numbers::{Refusal, Refused};
 
-#[derive(Drop)]
-pub struct Title {}
+// The limit on a title as given.
+pub const MAX_BYTES: usize = 511;
 
-impl Title {
-    // The limit on a title as given.
-    pub const MAX_BYTES: usize = 511;
-}
-
-// Composes `title` into `out`. The text is made in a local buffer first: a refusal writes nothing.
-#[tactic(auto, using(crate::proofs::Answers::met_short))]
+// Composes `title` into `out`.
 pub fn compose(title: &[u8], out: &mut [u8]) -> Composed
     ensures { Leaves (compose_of title.now out.old) result out.new }
 {
-    if Title::MAX_BYTES < title.len() {
-        return scan::refused(Refusal::TITLE_LONG, 0);
+    Composed::from(compose_into(title, out))
+}
+
+// The same, as the length written. The text is made in a local buffer first: a refusal writes nothing.
+pub fn compose_into(title: &[u8], out: &mut [u8]) -> Result<usize, Refused>
+    ensures { Leaves (compose_of title.now out.old) (answer_of result) out.new }
+{
+    if MAX_BYTES < title.len() {
+        return Err(Refusal::TitleLong.at(0));
     }
-    let table = pairs::table();
-    let mut text = [0u8; Title::MAX_BYTES];
-    let answer = scan::scan(title, &mut text, &table);
-    if answer.number != Refusal::ACCEPTED {
-        return answer;
-    }
-    let n = answer.length;
+    let mut text = [0u8; MAX_BYTES];
+    let n = scan::scan(title, &mut text)?;
     if out.len() < n {
-        return scan::refused(Refusal::NO_ROOM, 0);
+        return Err(Refusal::NoRoom.at(0));
     }
-    lists::copy(&text[..n], out);
-    answer
+    out[..n].copy_from_slice(&text[..n]);
+    Ok(n)
 }
 
 // Whether a text value of a slip is composed: well-formed, in the repertoire, no mark.
@@ -47,12 +43,12 @@ pub fn composed_text(value: &[u8]) -> bool
     ensures { result ≡ composed_text value.now }
 {
     let mut at = 0;
+    // A turn goes on by the bytes of a character: no iterator fits.
     while at < value.len() {
-        let c = utf8::first(value, at);
-        if !repertoire::is_plain(c) {
+        let Ok(c) = scan::start_at(value, at) else {
             return false;
-        }
-        at += utf8::width(c);
+        };
+        at += c.len_utf8();
     }
     true
 }

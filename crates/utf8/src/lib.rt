@@ -1,145 +1,88 @@
-// UTF-8: the character at a place, a character's width, a character put into a buffer.
+// UTF-8: the character at the head of some bytes, and a character put at the head of a buffer.
 #![tactic(auto)]
 
-ghost use Rattle.std.specs.Prelude.{◌≡◌, ◌+◌, ◌≤◌, ◌<◌, ◌++◌, length, take, drop, get_or};
-ghost use Rattle.nfc.specs.Utf8.{low, high, two_bytes, three_bytes, four_bytes, front, encode};
-ghost use Rattle.utf8.specs.Clauses.{Tested, At};
-
-// What stands for an ill-formed sequence: one past the last code point.
-pub const ILL: u32 = 0x11_0000;
+ghost use Rattle.std.specs.Prelude.{◌≡◌, ◌+◌, ◌≤◌, ◌<◌, ◌++◌, length, take, drop, get_or, MatchOption};
+ghost use Rattle.nfc.specs.Utf8.{ill, low, high, within, tail, character, front, encode};
+ghost use Rattle.utf8.specs.Clauses.{Follows, Reads, At};
 
 // The byte at `i`, or 0 past the end, which follows no first byte.
 fn byte(s: &[u8], i: usize) -> u32
     ensures { (result ≡ get_or s.now i 0) × (result < 256) }
 {
-    if i < s.len() { s[i] as u32 } else { 0 }
+    s.get(i).copied().map_or(0, u32::from)
 }
 
-// The bounds of the second byte after the first byte `a`.
-#[tactic(auto, unfolding(nfc::specs::Utf8::low))]
-fn low_of(a: u32) -> u32
-    ensures { (result ≡ low a) × (0x80 ≤ result) }
+// Whether `b` may stand second after the first byte `a`, by table 3-7.
+#[tactic(auto, unfolding(nfc::specs::Utf8::low, nfc::specs::Utf8::high, nfc::specs::Utf8::within))]
+fn is_second(a: u32, b: u32) -> bool
+    ensures { Follows b result (within (low a) (high a) b) }
 {
     match a {
-        0xE0 => 0xA0,
-        0xF0 => 0x90,
-        _ => 0x80,
+        0xE0 => matches!(b, 0xA0..=0xBF),
+        0xED => matches!(b, 0x80..=0x9F),
+        0xF0 => matches!(b, 0x90..=0xBF),
+        0xF4 => matches!(b, 0x80..=0x8F),
+        _ => matches!(b, 0x80..=0xBF),
     }
 }
 
-#[tactic(auto, unfolding(nfc::specs::Utf8::high))]
-fn high_of(a: u32) -> u32
-    ensures { (result ≡ high a) × (result ≤ 0xBF) }
+// Whether `b` may stand behind the second byte.
+#[tactic(auto, unfolding(nfc::specs::Utf8::tail, nfc::specs::Utf8::within))]
+fn is_tail(b: u32) -> bool
+    ensures { Follows b result (tail b) }
+{
+    matches!(b, 0x80..=0xBF)
+}
+
+// The number of the character whose bytes start with `a`, `b`, `c` and `d`.
+#[tactic(auto, unfolding(nfc::specs::Utf8::character, nfc::specs::Utf8::two_bytes, nfc::specs::Utf8::three_bytes, nfc::specs::Utf8::four_bytes, nfc::specs::Utf8::within))]
+fn code(a: u32, b: u32, c: u32, d: u32) -> Option<u32>
+    ensures { Reads (character a b c d) result }
 {
     match a {
-        0xED => 0x9F,
-        0xF4 => 0x8F,
-        _ => 0xBF,
+        0x00..=0x7F => Some(a),
+        0xC2..=0xDF if is_tail(b) => Some((a - 0xC0) * 64 + (b - 0x80)),
+        0xE0..=0xEF if is_second(a, b) && is_tail(c) => {
+            Some((a - 0xE0) * 4096 + (b - 0x80) * 64 + (c - 0x80))
+        }
+        0xF0..=0xF4 if is_second(a, b) && is_tail(c) && is_tail(d) => {
+            Some((a - 0xF0) * 262144 + (b - 0x80) * 4096 + (c - 0x80) * 64 + (d - 0x80))
+        }
+        _ => None,
     }
 }
 
-fn is_within(lo: u32, hi: u32, b: u32) -> bool
-    ensures { Tested lo hi b result }
+// The first character of some bytes. ASCII goes first, for speed: most characters are.
+pub fn first(s: &[u8]) -> Option<char>
+    ensures { Reads (front s.now) result }
 {
-    if b < lo {
-        return false;
-    }
-    b <= hi
-}
-
-fn two(a: u32, b: u32) -> u32
-    requires { a < 0xE0 }
-    ensures { result ≡ two_bytes a b }
-{
-    if a < 0xC2 {
-        return ILL;
-    }
-    if !is_within(0x80, 0xBF, b) {
-        return ILL;
-    }
-    (a - 0xC0) * 64 + (b - 0x80)
-}
-
-fn three(a: u32, b: u32, c: u32) -> u32
-    requires { (0xE0 ≤ a) × (a < 0xF0) }
-    ensures { result ≡ three_bytes a b c }
-{
-    if !is_within(low_of(a), high_of(a), b) {
-        return ILL;
-    }
-    if !is_within(0x80, 0xBF, c) {
-        return ILL;
-    }
-    (a - 0xE0) * 4096 + (b - 0x80) * 64 + (c - 0x80)
-}
-
-fn four(a: u32, b: u32, c: u32, d: u32) -> u32
-    requires { 0xF0 ≤ a }
-    ensures { result ≡ four_bytes a b c d }
-{
-    if 0xF4 < a {
-        return ILL;
-    }
-    if !is_within(low_of(a), high_of(a), b) {
-        return ILL;
-    }
-    if !is_within(0x80, 0xBF, c) {
-        return ILL;
-    }
-    if !is_within(0x80, 0xBF, d) {
-        return ILL;
-    }
-    (a - 0xF0) * 262144 + (b - 0x80) * 4096 + (c - 0x80) * 64 + (d - 0x80)
-}
-
-// The character at `at`, or ILL.
-pub fn first(s: &[u8], at: usize) -> u32
-    requires { at ≤ length s.now }
-    ensures { result ≡ front (drop at s.now) }
-{
-    let a = byte(s, at);
+    let a = byte(s, 0);
     if a < 0x80 {
-        return a;
+        return char::from_u32(a);
     }
-    let b = byte(s, at + 1);
-    if a < 0xE0 {
-        return two(a, b);
-    }
-    let c = byte(s, at + 2);
-    if a < 0xF0 {
-        return three(a, b, c);
-    }
-    four(a, b, c, byte(s, at + 3))
+    let code = code(a, byte(s, 1), byte(s, 2), byte(s, 3))?;
+    char::from_u32(code)
 }
 
 // The same at any place: past the end of the text there is none.
-pub fn character(s: &[u8], at: usize) -> u32
+pub fn character(s: &[u8], at: usize) -> Option<char>
     ensures { At s.now at result }
 {
-    if s.len() < at {
-        return ILL;
-    }
-    first(s, at)
+    first(s.get(at..)?)
 }
 
-// The width of a character of the repertoire.
-pub fn width(c: u32) -> usize
-    requires { c < 0x800 }
-    ensures { result ≡ Rattle.nfc.specs.Utf8.width c }
+// Puts a character at the head of `text`, and answers how many bytes it takes. ASCII goes first, for speed.
+#[tactic(auto, using(crate::proofs::Scalars::same_width, crate::proofs::Scalars::same_encode))]
+pub fn put(c: char, text: &mut [u8]) -> usize
+    requires { Rattle.nfc.specs.Utf8.width c ≤ length text.old }
+    ensures { (result ≡ Rattle.nfc.specs.Utf8.width c) × (text.new ≡ encode c ++ drop result text.old) }
 {
-    if c < 0x80 { 1 } else { 2 }
-}
-
-// Puts a character of the repertoire into `text` at `n`, and answers where it ends.
-pub fn put(text: &mut [u8], n: usize, c: u32) -> usize
-    requires { (c < 0x800) × (n + Rattle.nfc.specs.Utf8.width c ≤ length text.old) }
-    ensures { (result ≡ n + Rattle.nfc.specs.Utf8.width c) × (take result text.new ≡ take n text.old ++ encode c) }
-{
-    if c < 0x80 {
-        text[n] = c as u8;
-        return n + 1;
+    if c.is_ascii() {
+        text[0] = c as u8;
+        return 1;
     }
-    text[n] = (0xC0 + c / 64) as u8;
-    text[n + 1] = (0x80 + c % 64) as u8;
-    n + 2
+    let mut room = [0; 4];
+    let bytes = c.encode_utf8(&mut room).as_bytes();
+    text[..bytes.len()].copy_from_slice(bytes);
+    bytes.len()
 }

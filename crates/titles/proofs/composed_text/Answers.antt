@@ -1,8 +1,7 @@
-use mathlib.Core.Path.{refl, sym, ◌∙◌}
-use native.Mathlib.Omega.{arith}
+use Rattle.std.proofs.Common.{◌≡◌, refl, sym, ◌∙◌, arith}
+use Rattle.nfc.specs.Utf8.{width}
+use Rattle.utf8.proofs.Scalars.{same_width}
 use Rattle.titles.specs.Compose.{composed_text}
-use Rattle.nfc.proofs.MarksLaws.{plain_small}
-use Rattle.nfc.proofs.DecodingLaws.{width_some}
 use Rattle.titles.specs.ClustersLaws.{plain_at, not_plain_at, all_plain_end, next_fits}
 use Rattle.titles.proofs.composed_text.Goals as goal
 
@@ -10,38 +9,21 @@ pub loop-at-init : goal.loop-at-init
 unfolding composed_text
 loop-at-init c = (omega arith, refl)
 
-pub returns-then-not-is_plain : goal.returns-then-not-is_plain
-returns-then-not-is_plain c =
-    let e = sym c.is_plain.ensures ∙ c.if-not-is_plain.true in
+pub returns-in_default : goal.returns-in_default
+returns-in_default c =
     let l = c.loop-at in
-    let f = c.first-c in
-    sym (l.invariant.1 ∙ not_plain_at c.args.value.now l.at f.result c.loop-at-test.true f.ensures e)
-
-pub width-at-requires : goal.width-at-requires
-width-at-requires c =
-    omega (arith, plain_small c.first-c.result (sym c.is_plain.ensures ∙ c.if-not-is_plain.false))
-
--- past its test a character is plain, and all there
-pub overflow_add-at : goal.overflow_add-at
-overflow_add-at c =
-    let e = sym c.is_plain.ensures ∙ c.if-not-is_plain.false in
-    let fits = next_fits c.args.value.now c.loop-at.at c.first-c.result c.loop-at-test.true c.first-c.ensures e in
-    omega (arith, c.width-at.ensures, fits)
-
-pub loop-at-smaller : goal.loop-at-smaller
-loop-at-smaller c =
-    let e = sym c.is_plain.ensures ∙ c.if-not-is_plain.false in
-    let fits = next_fits c.args.value.now c.loop-at.at c.first-c.result c.loop-at-test.true c.first-c.ensures e in
-    omega (arith, fits, c.width-at.ensures, width_some c.first-c.result)
+    sym (l.invariant.1 ∙ not_plain_at c.args.value.now l.at _ c.loop-at-test.true refl c.in_default.ensures.2)
 
 pub loop-at-preserved : goal.loop-at-preserved
 loop-at-preserved c =
-    let e = sym c.is_plain.ensures ∙ c.if-not-is_plain.false in
     let l = c.loop-at in
-    let f = c.first-c in
     let v = c.args.value.now in
-    let fits = next_fits v l.at f.result c.loop-at-test.true f.ensures e in
-    rw c.width-at.ensures (fits, l.invariant.1 ∙ plain_at v l.at f.result c.loop-at-test.true f.ensures e)
+    let a = c.in-Ok in
+    let wide : c.len_utf8-at.result ≡ width a.c = c.len_utf8-at.ensures.value ∙ sym (same_width a.c) in
+    rw wide (
+      next_fits v l.at a.c c.loop-at-test.true a.ensures.0 a.ensures.1,
+      l.invariant.1 ∙ plain_at v l.at a.c c.loop-at-test.true a.ensures.0 a.ensures.1,
+    )
 
 pub returns : goal.returns
 returns c =

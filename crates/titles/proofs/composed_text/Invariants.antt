@@ -1,7 +1,5 @@
 -- `composed_text` meets its contract: all before `at` is plain, so the answer is that of the rest.
-use mathlib.Core.Path.{◌≡◌}
-use Prim.Native.Nat.{◌≤◌, ◌-◌}
-use lib.ListN.{length, drop}
+use Rattle.std.proofs.Common.{◌≡◌, ◌≤◌, ◌-◌, length, drop}
 use Rattle.nfc.specs.Utf8.{decode}
 use Rattle.nfc.specs.Repertoire.{all_plain}
 use Rattle.titles.specs.Compose.{composed_text}

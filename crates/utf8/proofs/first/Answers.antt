@@ -1,32 +1,22 @@
--- `first` meets its contract: each branch is that of the first byte.
-use mathlib.Core.Path.{sym, ◌∙◌}
-use Rattle.nfc.specs.FrontsLaws.{front_1, front_2, front_3, front_4}
+-- `first` meets its contract: a code that is read and no character would stand for an ill-formed sequence.
+use Rattle.std.proofs.Common.{◌≡◌, sym, ◌∙◌}
+use Rattle.nfc.specs.Utf8.{front, character}
+use Rattle.nfc.specs.FrontsLaws.{front_1}
+use Rattle.utf8.proofs.Scalars.{front_bytes, front_read}
 use Rattle.utf8.proofs.first.Goals as goal
+use Rattle.utf8.proofs.first.Goals.{After-code}
 
 pub returns-then-a-lt128 : goal.returns-then-a-lt128
-returns-then-a-lt128 c =
-    let x = c.args in
-    sym (front_1 x.s.now x.at _ c.byte-a.ensures.0 c.if-a-lt128.true)
+returns-then-a-lt128 c = let x = c.byte-a in
+    front_read _ x.result _ (sym (front_1 c.args.s.now 0 x.result x.ensures.0 c.if-a-lt128.true)) c.from_u32.ensures.value
 
-pub returns-then-a-lt224 : goal.returns-then-a-lt224
-returns-then-a-lt224 c =
-    let x = c.args in
-    c.two.ensures
-    ∙ sym (front_2 x.s.now x.at _ _ c.byte-a.ensures.0 c.byte-b.ensures.0 c.if-a-lt128.false c.if-a-lt224.true)
+read : (c : After-code) → character c.byte-a.result c.byte.result c.byte-2.result c.byte-3.result ≡ front c.args.s.now
+read c = front_bytes _ _ _ _ _ c.byte-a.ensures.0 c.byte.ensures.0 c.byte-2.ensures.0 c.byte-3.ensures.0
 
-pub returns-then-a-lt240 : goal.returns-then-a-lt240
-returns-then-a-lt240 c =
-    let x = c.args in
-    let a = c.byte-a.ensures.0 in
-    let b = c.byte-b.ensures.0 in
-    c.three.ensures
-    ∙ sym (front_3 x.s.now x.at _ _ _ a b c.byte-c.ensures.0 c.if-a-lt224.false c.if-a-lt240.true)
+pub returns-in_err-code : goal.returns-in_err-code
+returns-in_err-code c =
+    rw c.from_residual.ensures (sym (read (goal.at.returns-in_err-code c).After-code) ∙ c.in_err-code.ensures)
 
 pub returns : goal.returns
 returns c =
-    let x = c.args in
-    let a = c.byte-a.ensures.0 in
-    let b = c.byte-b.ensures.0 in
-    let third = c.byte-c.ensures.0 in
-    c.four.ensures
-    ∙ sym (front_4 x.s.now x.at _ _ _ _ a b third c.byte.ensures.0 c.if-a-lt240.false)
+    front_read _ c.in_ok-code.code _ (c.in_ok-code.ensures ∙ read (goal.at.returns c).After-code) c.from_u32-2.ensures.value

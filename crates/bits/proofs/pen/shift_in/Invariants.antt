@@ -1,7 +1,7 @@
 -- `bits::pen::shift_in` meets its contract. The loop's invariant: dst and what is held are the bits of acc and of the first j bytes. Assumes nothing.
 use mathlib.Core.Path.{◌≡◌}
 use mathlib.Core.List.{◌++◌}
-use Prim.Native.Nat.{◌-◌, ◌≤◌, ◌<◌, ◌^◌}
+use Prim.Native.Nat.{◌≤◌, ◌<◌, ◌^◌}
 use lib.ListN.{length, take}
 use Rattle.bits.specs.Bits.{bits_of, bits_in}
 use Rattle.bits.proofs.pen.shift_in.Given as goal
@@ -11,6 +11,3 @@ invariant-loop-j l = (bits_of (take l.j l.dst) ++ bits_in l.held l.rest ≡ bits
     × (l.rest < 2 ^ l.held)
     × (length l.dst ≡ length l.initial.dst)
     × (l.j ≤ length l.src)
-
-abbrev pub decreases-loop-j : goal.decreases-loop-j
-decreases-loop-j l = length l.src - l.j

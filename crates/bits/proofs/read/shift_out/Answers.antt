@@ -13,7 +13,7 @@ loop-j-preserved c =
     let l = c.loop-j in
     let a = c.byte-first in
     let room : c.args.i + l.j + 1 < length c.args.s.now = omega (arith, c.requires.1, c.loop-j-test) in (
-      shifted_more c.args.s.now l.dst c.args.i c.args.off l.j c.requires.0 room c.loop-j-test.true
+      shifted_more c.args.s.now l.dst c.args.i c.args.off l.j c.requires.0 room (omega (arith, c.loop-j-test.true, l.invariant.1))
           a.ensures.0 c.byte-second.ensures.0 a.ensures.1 c.byte-second.ensures.1 l.invariant.0,
       simp length-set (omega arith),
       simp length-set (omega arith),

@@ -1,7 +1,5 @@
 -- `scan` meets its contract: each turn goes one cluster further.
-use mathlib.Core.Path.{◌≡◌}
-use Prim.Native.Nat.{◌-◌}
-use lib.ListN.{length}
+use Rattle.std.proofs.Common.{◌≡◌, ◌-◌, length}
 use Rattle.titles.proofs.Reached.{Reached}
 use Rattle.titles.proofs.scan.scan.Given as goal
 

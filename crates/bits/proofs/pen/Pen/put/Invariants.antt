@@ -1,10 +1,10 @@
--- `bits::pen::put` meets its contract. The loop's invariant: the bytes and the bits left in the word are those at its start. Assumes nothing.
+-- `bits::pen::Pen::put` meets its contract. The loop's invariant: the bytes and the bits left in the word are those at its start. Assumes nothing.
 use mathlib.Core.Path.{◌≡◌}
 use mathlib.Core.List.{◌++◌}
 use Prim.Native.Nat.{◌+◌, ◌*◌, ◌≤◌}
 use lib.ListN.{length, take, drop}
 use Rattle.bits.specs.Bits.{bits_of, bits_in}
-use Rattle.bits.proofs.pen.put.Given as goal
+use Rattle.bits.proofs.pen.Pen.put.Given as goal
 
 abbrev pub invariant-loop-held : goal.invariant-loop-held
 invariant-loop-held l = (bits_of (take l.at l.out) ++ bits_in l.held l.word ≡ bits_of (take l.initial.at l.initial.out) ++ bits_in l.initial.held l.word)

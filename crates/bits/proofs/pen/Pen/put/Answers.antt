@@ -3,7 +3,7 @@ use native.Mathlib.Omega.{arith}
 use borrow.Author.Rules.{rules}
 use lib.ListN.{length, length-set}
 use Rattle.bits.proofs.Strokes.{emptied, rest_more, field_written}
-use Rattle.bits.proofs.pen.put.Goals as goal
+use Rattle.bits.proofs.pen.Pen.put.Goals as goal
 
 pub loop-held-preserved : goal.loop-held-preserved
 loop-held-preserved c =
@@ -21,4 +21,4 @@ returns c =
     let l = c.loop-held in
     let a = c.args in
     let p = c.requires in
-    field_written a.pen a.v a.n _ l.out l.held l.at p.0 p.1 p.2 l.invariant.0 (search rules) l.invariant.1 l.invariant.2 l.invariant.3
+    field_written a.self.now a.v a.n _ l.out l.held l.at p.0 p.1 p.2 l.invariant.0 (search rules) l.invariant.1 l.invariant.2 l.invariant.3
