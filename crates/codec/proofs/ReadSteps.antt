@@ -1,13 +1,12 @@
 -- The steps of reading an entry, at bits of a slip.
 use mathlib.Core.Path.{◌≡◌, sym, ap, ap₂, ◌∙◌}
-use mathlib.Core.Bool.{true, false, true≢false, false≢true}
+use mathlib.Core.Bool.{true}
 use mathlib.Core.List.{List, ◌∷◌}
 use Prim.Native.Nat.{ℕ, zero, suc, ◌+◌, ◌-◌, ◌*◌, ◌^◌, ◌≤◌, ◌<◌}
 use native.Mathlib.Nat.{add-zero, le_trans}
 use native.Mathlib.Numerals.{add-one}
 use native.Mathlib.Omega.{arith}
-use borrow.Author.Tests.{leb-true, leb-false}
-use lib.Dec.{leb}
+use Rattle.std.specs.Prelude.{Option, None, Some}
 use lib.ListN.{length, take, drop, get_or, length-drop, drop_of_length-le}
 use lib.Seq.{drop-drop}
 use Rattle.bits.specs.Bits.{bits_of, num_of, octets}
@@ -22,19 +21,16 @@ use Rattle.codec.specs.TableLaws.{fits_internal, column_off}
 use Rattle.codec.specs.Reader.{RowIs, RowGives}
 use Rattle.codec.specs.declared.row.Row.{Row}
 
--- an entry that the bits do not hold
-pub short_gives : (s : List ℕ) (at : ℕ) (x : Read) (r : Row) → x ≡ short → r.whole ≡ false → RowGives s at x r
-short_gives s at x r e f = record { missing = λ g. e; there = λ g. absurd (false≢true (sym f ∙ g)) }
+-- what is read from a later bit
+gives_from : (s : List ℕ) (at later : ℕ) (x y : Read) (r : Option Row) → at ≤ later → x ≡ y → RowGives s later y r → RowGives s at x r
+gives_from s at later x y None h e g = e ∙ g
+gives_from s at later x y (Some r) h e i =
+    record { entry = e ∙ i.entry; form = i.form; onward = le_trans h i.onward; fits = i.fits }
 
--- the same, read from an earlier bit
-pub gives_from : (s : List ℕ) (at later : ℕ) (x y : Read) (r : Row) → at ≤ later → x ≡ y → RowGives s later y r → RowGives s at x r
-gives_from s at later x y r h e g =
-    record {
-      missing = λ f. e ∙ g.missing f;
-      there = λ f.
-          let i : RowIs s later y r = g.there f in
-          record { entry = e ∙ i.entry; form = i.form; onward = le_trans h i.onward; fits = i.fits };
-    }
+-- what is read n bits on, of the same slip
+pub gives_on : (s s' : List ℕ) (at on n : ℕ) (x : Read) (f : List ℕ → Read) (r : Option Row) → s' ≡ s → on ≡ at + n
+    → x ≡ f (drop (at + n) (bits_of s)) → RowGives s' on (f (drop on (bits_of s'))) r → RowGives s at x r
+gives_on s s' at on n x f r e h g k = gives_from s at (at + n) x (f (drop (at + n) (bits_of s))) r (omega arith) g (rw (e, h) at k)
 
 module _ (s : List ℕ) (at : ℕ) where
   -- the bits from `at` on, and how many they are
@@ -50,21 +46,21 @@ module _ (s : List ℕ) (at : ℕ) where
   enough : (n : ℕ) → at + n ≤ 8 * length s → n ≤ length rest
   enough n h = omega (arith, rest_long)
 
-  pub valued_gives : (t n : ℕ) → at ≤ 8 * length s → row_fits t 0 n ≡ true
-      → RowGives s at (read_value t n rest) (record { kind = t; count = 0; length = n; from = at; whole = leb (8 * n) (8 * length s - at) })
+  pub valued_short : (t n : ℕ) → at ≤ 8 * length s → 8 * length s < at + 8 * n → read_value t n rest ≡ short
   unfolding read_value
-  valued_gives t n h f =
-      let x : Read = got (tip t (octets n rest)) (drop (8 * n) rest) in
+  valued_short t n g h = with_short (8 * n) rest (got (tip t (octets n rest)) (drop (8 * n) rest)) (few (8 * n) h g)
+
+  pub valued_is : (t n : ℕ) → at + 8 * n ≤ 8 * length s → row_fits t 0 n ≡ true
+      → RowIs s at (read_value t n rest) (record { kind = t; count = 0; length = n; from = at })
+  unfolding read_value
+  valued_is t n h f =
       record {
-        missing = λ e. with_short (8 * n) rest x (omega (arith, rest_long, leb-false (8 * n) (8 * length s - at) e));
-        there = λ e.
-            let g : 8 * n ≤ 8 * length s - at = leb-true (8 * n) (8 * length s - at) e in
-            record {
-              entry = with_enough (8 * n) rest x (omega (arith, rest_long)) ∙ ap (got (tip t (octets n rest))) (drop-drop (8 * n) at (bits_of s));
-              form = f;
-              onward = omega arith;
-              fits = omega arith;
-            };
+        entry =
+            with_enough (8 * n) rest (got (tip t (octets n rest)) (drop (8 * n) rest)) (enough (8 * n) h)
+            ∙ ap (got (tip t (octets n rest))) (drop-drop (8 * n) at (bits_of s));
+        form = f;
+        onward = omega arith;
+        fits = h;
       }
 
   -- "the length in 9 bits and the value"
@@ -102,33 +98,30 @@ module _ (s : List ℕ) (at : ℕ) where
   unfolding read_rest
   internal_short g h = with_short child_bits rest (got (node (num_of (take child_bits rest) + 1)) (drop child_bits rest)) (few child_bits h g)
 
-  pub internal_gives : (m : ℕ) → at + child_bits ≤ 8 * length s → m ≡ num_of (take child_bits rest) → m < 2 ^ child_bits
-      → RowGives s at (read_rest 1 rest) (record { kind = 0; count = m + 1; length = 0; from = at + child_bits; whole = true })
+  pub internal_is : (m : ℕ) → at + child_bits ≤ 8 * length s → m ≡ num_of (take child_bits rest) → m < 2 ^ child_bits
+      → RowIs s at (read_rest 1 rest) (record { kind = 0; count = m + 1; length = 0; from = at + child_bits })
   unfolding read_rest
-  internal_gives m h e small =
+  internal_is m h e small =
       let v : List ℕ = octets 0 (drop (at + child_bits) (bits_of s)) in
       let k : entry_of 0 (m + 1) v ≡ node (m + 1) = ap (λ (j : ℕ). entry_of 0 j v) (add-one m) ∙ ap node (sym (add-one m)) in
       let b : drop (at + child_bits + 8 * 0) (bits_of s) ≡ drop child_bits rest =
       ap (λ (j : ℕ). drop j (bits_of s)) (add-zero (at + child_bits)) ∙ sym (drop-drop child_bits at (bits_of s)) in
       record {
-        missing = λ f. absurd (true≢false f);
-        there = λ f. record {
-          entry =
-              with_enough child_bits rest (got (node (num_of (take child_bits rest) + 1)) (drop child_bits rest)) (enough child_bits h)
-              ∙ ap (λ (j : ℕ). got (node (j + 1)) (drop child_bits rest)) (sym e)
-              ∙ ap₂ got (sym k) (sym b);
-          form = fits_internal (m + 1) (omega arith) (omega arith);
-          onward = omega arith;
-          fits = omega arith;
-        };
+        entry =
+            with_enough child_bits rest (got (node (num_of (take child_bits rest) + 1)) (drop child_bits rest)) (enough child_bits h)
+            ∙ ap (λ (j : ℕ). got (node (j + 1)) (drop child_bits rest)) (sym e)
+            ∙ ap₂ got (sym k) (sym b);
+        form = fits_internal (m + 1) (omega arith) (omega arith);
+        onward = omega arith;
+        fits = omega arith;
       }
 
   -- the entry's first bit
-  pub none_left : 8 * length s ≤ at → read_one rest ≡ short
+  pub none_left : 8 * length s < at + 1 → read_one rest ≡ short
   unfolding read_one
   none_left h = ap read_one (drop_of_length-le (bits_of s) {i = at} (omega (arith, length_bits_of s)))
 
-  pub first_is : (x y : ℕ) → at < 8 * length s → x ≡ num_of (take 1 rest) → x ≡ y → read_one rest ≡ read_rest y (drop (at + 1) (bits_of s))
+  pub first_is : (x y : ℕ) → at + 1 ≤ 8 * length s → x ≡ num_of (take 1 rest) → x ≡ y → read_one rest ≡ read_rest y (drop (at + 1) (bits_of s))
   unfolding read_one num_of
   first_is x y h e f =
       let off : rest ≡ get_or (bits_of s) at 0 ∷ drop (at + 1) (bits_of s) = column_off (bits_of s) at (omega (arith, length_bits_of s)) in

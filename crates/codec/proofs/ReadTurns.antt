@@ -1,12 +1,11 @@
 -- The reader's loop: what holds at each turn, one turn, and its two ends.
-use mathlib.Core.Path.{◌≡◌, refl, sym, ap, ◌∙◌}
+use mathlib.Core.Path.{◌≡◌, refl, sym, ap, subst, ◌∙◌}
 use mathlib.Core.Bool.{Bool, true, false}
 use mathlib.Core.List.{List, [], ◌∷◌, ◌++◌, append_assoc, append-nil}
 use Prim.Native.Nat.{ℕ, suc, ◌+◌, ◌-◌, ◌*◌, ◌≤◌, ◌<◌}
 use native.Mathlib.Numerals.{add-one}
 use native.Mathlib.Omega.{arith}
-use borrow.Author.Tests.{eq-eqb, ne_eqb}
-use lib.Dec.{eqb}
+use Rattle.std.specs.Prelude.{Option, None, Some}
 use lib.ListN.{length, take, drop, set, length-append, length-drop}
 use lib.Seq.{take-suc-set, take_at, length-take-le, append_snoc}
 use Rattle.bits.specs.Bits.{bits_of, octets}
@@ -17,7 +16,7 @@ use Rattle.tables.specs.TablesLaws.{length_entries}
 use Rattle.codec.specs.Reading.{Read, short, read_one, Reading, add, after, read_all}
 use Rattle.codec.specs.TableLaws.{entries_snoc, sum_snoc, form_snoc}
 use Rattle.tables.specs.Limits.{header_bits}
-use Rattle.codec.specs.Reader.{RowIs, FillAsks, FillGives}
+use Rattle.codec.specs.Reader.{RowIs, RestIs, FillAsks, FillGives}
 use Rattle.codec.specs.declared.row.Row.{Row}
 
 -- rows read before
@@ -48,6 +47,12 @@ started s n T C L W a =
 -- a cell is stored behind the first i
 stored : (c : List ℕ) (i x : ℕ) → i < length c → take (i + 1) (set c i x) ≡ take i c ++ (x ∷ [])
 stored c i x h = ap (λ (k : ℕ). take k (set c i x)) (add-one i) ∙ take-suc-set c i x h
+
+-- what is told of the rest looks at no rows
+rest_of : (s : List ℕ) (es : List Entry) (b : List ℕ) (r : Option ℕ) (w : Bool)
+    → RestIs s (record { rows = []; rest = b; whole = w }) r → RestIs s (record { rows = es; rest = b; whole = w }) r
+rest_of s es b None w f = f
+rest_of s es b (Some at) w f = f
 
 module _ {s : List ℕ} {n : ℕ} {T C L W : List ℕ} {at used i : ℕ} (g : Going s n T C L W at used i) where
   -- a turn
@@ -107,10 +112,11 @@ module _ {s : List ℕ} {n : ℕ} {T C L W : List ℕ} {at used i : ℕ} (g : Go
       }
 
   -- the end, where the bits from `at` on give nothing more
-  ended : (w : Bool) → n ≤ length T → n ≤ length C → n ≤ length L → length s ≤ length W
+  ended : (w : Bool) (r : Option ℕ) → n ≤ length T → n ≤ length C → n ≤ length L → length s ≤ length W
       → read_all (n - i) (drop at (bits_of s)) ≡ record { rows = []; rest = drop at (bits_of s); whole = w }
-      → FillGives s n (read_all n (drop header_bits (bits_of s))) (record { rows = i; used = used; at = at; whole = w }) T C L W
-  ended w hT hC hL hW e =
+      → RestIs s (record { rows = []; rest = drop at (bits_of s); whole = w }) r
+      → FillGives s n (read_all n (drop header_bits (bits_of s))) (record { rows = i; used = used; rest = r }) T C L W
+  ended w r hT hC hL hW e f =
       let before : List Entry = entries (take i T) (take i C) (take i L) (take used W) in
       let x : Reading = read_all n (drop header_bits (bits_of s)) in
       let end : x ≡ record { rows = before ++ []; rest = drop at (bits_of s); whole = w } = g.left ∙ ap (adds before) e in
@@ -122,34 +128,30 @@ module _ {s : List ℕ} {n : ℕ} {T C L W : List ℕ} {at used i : ℕ} (g : Go
         rows = rows;
         count = sym (ap length (sym rows) ∙ length_entries (take i T) (take i C) (take i L) (take used W) (l_c ∙ sym l_t) (l_l ∙ sym l_t) ∙ l_t);
         few = g.few;
-        whole = sym (ap (λ (y : Reading). y.whole) end);
-        rest = sym (ap (λ (y : Reading). y.rest) end);
-        within = g.within;
+        rest = subst (λ (y : Reading). RestIs s y r) (sym end) (rest_of s (before ++ []) (drop at (bits_of s)) r w f);
         form = g.form;
         used = g.sums;
-        packed = g.packed;
+        packed = omega (arith, g.packed, g.within);
         room = omega (arith, g.packed, g.within);
       }
 
   -- all that were asked for are read
   pub ended_whole : n ≤ i → n ≤ length T → n ≤ length C → n ≤ length L → length s ≤ length W
-      → FillGives s n (read_all n (drop header_bits (bits_of s))) (record { rows = i; used = used; at = at; whole = eqb i n }) T C L W
+      → FillGives s n (read_all n (drop header_bits (bits_of s))) (record { rows = n; used = used; rest = Some at }) T C L W
   unfolding read_all
   ended_whole h hT hC hL hW =
+      let all : i ≡ n = omega (arith, g.few) in
       let none : n - i ≡ 0 = omega arith in
-      let all : eqb i n ≡ true = eq-eqb i n (omega (arith, g.few)) in
-      ended (eqb i n) hT hC hL hW
-      (ap (λ (k : ℕ). read_all k (drop at (bits_of s))) none
-      ∙ ap (λ (w : Bool). record { rows = []; rest = drop at (bits_of s); whole = w }) (sym all))
+      subst (λ (k : ℕ). FillGives s n (read_all n (drop header_bits (bits_of s))) (record { rows = k; used = used; rest = Some at }) T C L W) all
+      (ended true (Some at) hT hC hL hW (ap (λ (k : ℕ). read_all k (drop at (bits_of s))) none) (refl, refl, g.within))
 
   -- the bits end inside an entry
   pub ended_short : i < n → read_one (drop at (bits_of s)) ≡ short → n ≤ length T → n ≤ length C → n ≤ length L → length s ≤ length W
-      → FillGives s n (read_all n (drop header_bits (bits_of s))) (record { rows = i; used = used; at = at; whole = eqb i n }) T C L W
+      → FillGives s n (read_all n (drop header_bits (bits_of s))) (record { rows = i; used = used; rest = None }) T C L W
   unfolding read_all
   ended_short h e hT hC hL hW =
       let count : n - i ≡ suc (n - (i + 1)) = omega arith in
-      let some : eqb i n ≡ false = ne_eqb i n (λ (f : i ≡ n). omega arith) in
-      ended (eqb i n) hT hC hL hW
+      ended false None hT hC hL hW
       (ap (λ (k : ℕ). read_all k (drop at (bits_of s))) count
-      ∙ ap (λ (y : Read). after y (drop at (bits_of s)) (λ z. read_all (n - (i + 1)) z)) e
-      ∙ ap (λ (w : Bool). record { rows = []; rest = drop at (bits_of s); whole = w }) (sym some))
+      ∙ ap (λ (y : Read). after y (drop at (bits_of s)) (λ z. read_all (n - (i + 1)) z)) e)
+      refl

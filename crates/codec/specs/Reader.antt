@@ -1,6 +1,7 @@
 -- What the reader asks and gives.
-use Rattle.std.specs.Prelude.{◌≡◌, true, false, List, ℕ, ◌+◌, ◌*◌, ◌≤◌, length, take, drop}
+use Rattle.std.specs.Prelude.{◌≡◌, true, false, List, ℕ, ◌+◌, ◌*◌, ◌≤◌, ◌<◌, Option, None, Some, length, take, drop}
 use Rattle.bits.specs.Bits.{bits_of, octets}
+use Rattle.bits.specs.Reads.{FieldGives}
 use Rattle.trees.specs.Rules.{max_nodes, max_bytes}
 use Rattle.tables.specs.Limits.{header_bits}
 use Rattle.tables.specs.Tables.{entry_of, entries, row_fits, first_bad, sum}
@@ -8,10 +9,10 @@ use Rattle.codec.specs.Reading.{Read, short, got, Reading}
 use Rattle.codec.specs.declared.fill.Filled.{Filled}
 use Rattle.codec.specs.declared.row.Row.{Row}
 
--- an entry is read at a bit of a slip that is not too long
-pub record RowAsks (s : List ℕ) (at : ℕ) : Type 0 where
-  pub long : length s ≤ max_bytes
-  pub within : at ≤ 8 * length s
+-- the field of n bits at a bit, or none where the bits end before it does
+abbrev pub FieldIs : List ℕ → ℕ → ℕ → Option ℕ → Type 0
+FieldIs s at n None = 8 * length s < at + n
+FieldIs s at n (Some v) = (at + n ≤ 8 * length s) × FieldGives s at n v
 
 -- x, what is read at a bit, is this row with the value at its bit
 pub record RowIs (s : List ℕ) (at : ℕ) (x : Read) (r : Row) : Type 0 where
@@ -20,9 +21,9 @@ pub record RowIs (s : List ℕ) (at : ℕ) (x : Read) (r : Row) : Type 0 where
   pub onward : at ≤ r.from
   pub fits : r.from + 8 * r.length ≤ 8 * length s
 
-pub record RowGives (s : List ℕ) (at : ℕ) (x : Read) (r : Row) : Type 0 where
-  pub missing : r.whole ≡ false → x ≡ short
-  pub there : r.whole ≡ true → RowIs s at x r
+abbrev pub RowGives : List ℕ → ℕ → Read → Option Row → Type 0
+RowGives s at x None = x ≡ short
+RowGives s at x (Some r) = RowIs s at x r
 
 -- a slip with a header, and room for n rows and the values
 pub record FillAsks (s : List ℕ) (n : ℕ) (types counts lengths values : List ℕ) : Type 0 where
@@ -34,15 +35,18 @@ pub record FillAsks (s : List ℕ) (n : ℕ) (types counts lengths values : List
   pub lengths_room : n ≤ length lengths
   pub values_room : length s ≤ length values
 
--- the table holds the rows x that were read, of which `at` is the bit behind the last
+-- where all of x that was asked for is there, the bit behind it
+abbrev pub RestIs : List ℕ → Reading → Option ℕ → Type 0
+RestIs s x None = x.whole ≡ false
+RestIs s x (Some at) = (x.whole ≡ true) × (drop at (bits_of s) ≡ x.rest) × (at ≤ 8 * length s)
+
+-- the table holds the rows x that were read
 pub record FillGives (s : List ℕ) (n : ℕ) (x : Reading) (r : Filled) (types counts lengths values : List ℕ) : Type 0 where
   pub rows : entries (take r.rows types) (take r.rows counts) (take r.rows lengths) (take r.used values) ≡ x.rows
   pub count : r.rows ≡ length x.rows
   pub few : r.rows ≤ n
-  pub whole : r.whole ≡ x.whole
-  pub rest : drop r.at (bits_of s) ≡ x.rest
-  pub within : r.at ≤ 8 * length s
+  pub rest : RestIs s x r.rest
   pub form : first_bad 0 (take r.rows types) (take r.rows counts) (take r.rows lengths) ≡ r.rows
   pub used : r.used ≡ sum (take r.rows lengths)
-  pub packed : 8 * r.used ≤ r.at
+  pub packed : r.used ≤ length s
   pub room : r.used ≤ length values

@@ -5,19 +5,18 @@ ghost use Rattle.codec.specs.Reading.{read_all};
 ghost use Rattle.tables.specs.Limits.{header_bits};
 ghost use Rattle.codec.specs.Reader.{FillAsks, FillGives};
 
-use crate::row::row_at;
+use crate::row::Reader;
 use tables::limits::Slip;
 
-// How many rows and bytes of values were read, the bit behind them, and whether the bits held all that were asked for.
-#[derive(Drop)]
+// How many rows and bytes of values were read, and where all that were asked for were there the bit behind them.
+#[derive(Clone, Copy)]
 pub struct Filled {
     pub rows: usize,
     pub used: usize,
-    pub at: usize,
-    pub whole: bool,
+    pub rest: Option<usize>,
 }
 
-// Reads up to n entries behind the header of s, while the bits last.
+// Reads up to n entries behind the header of s, while the bits last. The columns are lent as slices, as a slip is opened.
 pub fn fill(
     s: &[u8],
     n: usize,
@@ -31,27 +30,25 @@ pub fn fill(
 {
     let mut at = Slip::EDITION_BITS + Slip::COUNT_BITS;
     let mut used = 0;
-    let mut i = 0;
-    while i < n {
-        let next = row_at(s, at);
-        if !next.whole {
-            break;
-        }
-        let from = next.from;
-        let length = next.length;
-        let end = used + length;
-        types[i] = next.kind as u16;
-        counts[i] = next.count as u16;
-        lengths[i] = length as u16;
-        bits::copy(s, from, &mut values[used..end]);
+    for i in 0..n {
+        let Some(row) = (Reader { slip: s, at }).row() else {
+            return Filled {
+                rows: i,
+                used,
+                rest: None,
+            };
+        };
+        let end = used + row.length;
+        types[i] = row.kind as u16;
+        counts[i] = row.count as u16;
+        lengths[i] = row.length as u16;
+        bits::copy(s, row.from, &mut values[used..end]);
         used = end;
-        at = from + 8 * length;
-        i += 1;
+        at = row.from + 8 * row.length;
     }
     Filled {
-        rows: i,
+        rows: n,
         used,
-        at,
-        whole: i == n,
+        rest: Some(at),
     }
 }

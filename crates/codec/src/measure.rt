@@ -6,8 +6,10 @@ ghost use Rattle.codec.specs.Writer.{MeasureGives, SizeGives};
 
 use tables::form::cell;
 use tables::limits::Slip;
+use tables::table::Table;
 
 // "An entry takes 6, 267 or 20 + 8 × length bits." The bound is that of any 16-bit length.
+#[tactic(auto, using(crate::specs::MeasureLaws::node_bits, crate::specs::MeasureLaws::dangling_bits, crate::specs::MeasureLaws::pair_bits))]
 fn row_bits(kind: usize, count: usize, length: usize) -> usize
     requires { length < 65536 }
     ensures { (result ≡ row_bits kind count length) × (result ≤ 524308) }
@@ -24,26 +26,21 @@ fn row_bits(kind: usize, count: usize, length: usize) -> usize
 }
 
 // The bits of a table's slip, its header among them and its padding not.
-fn measure(types: &[u16], counts: &[u16], lengths: &[u16]) -> usize
-    requires { Columns types.now counts.now lengths.now }
-    ensures { MeasureGives types.now counts.now lengths.now result }
+fn measure(t: Table) -> usize
+    requires { Columns t.types.now t.counts.now t.lengths.now }
+    ensures { MeasureGives t.entry.types.now t.entry.counts.now t.entry.lengths.now result }
 {
     let mut total = Slip::EDITION_BITS + Slip::COUNT_BITS;
-    let mut i = 0;
-    while i < types.len() {
-        let kind = cell(types, i);
-        let count = cell(counts, i);
-        let length = cell(lengths, i);
-        total += row_bits(kind, count, length);
-        i += 1;
+    for i in 0..t.types.len() {
+        total += row_bits(cell(t.types, i), cell(t.counts, i), cell(t.lengths, i));
     }
     total
 }
 
 // The bytes of a table's slip: its bits, and zeros to the end of the last byte.
-pub fn size(types: &[u16], counts: &[u16], lengths: &[u16]) -> usize
-    requires { Columns types.now counts.now lengths.now }
-    ensures { SizeGives types.now counts.now lengths.now result }
+pub fn size(t: Table) -> usize
+    requires { Columns t.types.now t.counts.now t.lengths.now }
+    ensures { SizeGives t.entry.types.now t.entry.counts.now t.entry.lengths.now result }
 {
-    (measure(types, counts, lengths) + 7) / 8
+    measure(t).div_ceil(8)
 }

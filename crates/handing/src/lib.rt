@@ -1,82 +1,57 @@
 // A table handed out: its parts copied to the buffers, where they have room.
 #![tactic(auto)]
 
-ghost use Rattle.std.specs.Prelude.{◌≡◌, ◌≤◌, length};
+ghost use Rattle.std.specs.Prelude.{◌≡◌};
+ghost use Rattle.tables.specs.Seen.{seen};
 ghost use Rattle.tables.specs.Tables.{table};
-ghost use Rattle.outcomes.specs.Outcome.{over, Leaves};
+ghost use Rattle.outcomes.specs.Outcome.{Leaves};
+ghost use Rattle.answers.specs.Answers.{answer_of};
 ghost use Rattle.handing.specs.Handing.{handed_of, lacks_room};
 
-use answers::Answer;
-use outcomes::Refusal;
+use answers::Accepted;
+use outcomes::numbers::{Refusal, Refused};
+use tables::table::Table;
 
-fn copy_cells(cells: &[u16], out: &mut [u16])
-    requires { length cells.now ≤ length out.old }
-    ensures { out.new ≡ over cells.now out.old }
-{
-    let mut i = 0;
-    while i < cells.len() {
-        out[i] = cells[i];
-        i += 1;
-    }
-}
-
+#[tactic(auto, unfolding(crate::specs::Handing::lacks_room))]
 fn lacks_room(
-    types: &[u16],
-    counts: &[u16],
-    lengths: &[u16],
-    values: &[u8],
+    t: Table,
     types_room: usize,
     counts_room: usize,
     lengths_room: usize,
     values_room: usize,
 ) -> bool
-    ensures { result ≡ lacks_room (table types.now counts.now lengths.now values.now) types_room counts_room lengths_room values_room }
+    ensures { result ≡ lacks_room (seen t.entry) types_room counts_room lengths_room values_room }
 {
-    if types_room < types.len() {
-        return true;
-    }
-    if counts_room < counts.len() {
-        return true;
-    }
-    if lengths_room < lengths.len() {
-        return true;
-    }
-    values_room < values.len()
+    types_room < t.types.len()
+        || counts_room < t.counts.len()
+        || lengths_room < t.lengths.len()
+        || values_room < t.values.len()
 }
 
-// The answer of an accepted slip with its table in the buffers, or 11; any other answer as it is.
-#[tactic(auto, using(crate::specs::HandingLaws::handed_refused))]
+// An accepted slip's table goes to the four buffers that C lends, or 11; a refusal stays as it is.
 pub fn hand_out(
-    a: Answer,
-    types: &[u16],
-    counts: &[u16],
-    lengths: &[u16],
-    values: &[u8],
+    a: Result<Accepted, Refused>,
+    t: Table,
     types_out: &mut [u16],
     counts_out: &mut [u16],
     lengths_out: &mut [u16],
     values_out: &mut [u8],
-) -> Answer
-    ensures { Leaves (handed_of a (table types.now counts.now lengths.now values.now) (table types_out.old counts_out.old lengths_out.old values_out.old)) result (table types_out.new counts_out.new lengths_out.new values_out.new) }
+) -> Result<Accepted, Refused>
+    ensures { Leaves (handed_of (answer_of a) (seen t.entry) (table types_out.old counts_out.old lengths_out.old values_out.old)) (answer_of result) (table types_out.new counts_out.new lengths_out.new values_out.new) }
 {
-    if a.number != Refusal::ACCEPTED {
-        return a;
-    }
+    let accepted = a?;
     if lacks_room(
-        types,
-        counts,
-        lengths,
-        values,
+        t,
         types_out.len(),
         counts_out.len(),
         lengths_out.len(),
         values_out.len(),
     ) {
-        return answers::refused(Refusal::NO_ROOM, 0);
+        return Err(Refusal::NoRoom.into());
     }
-    copy_cells(types, types_out);
-    copy_cells(counts, counts_out);
-    copy_cells(lengths, lengths_out);
-    lists::copy(values, values_out);
-    a
+    lists::copy(t.types, types_out);
+    lists::copy(t.counts, counts_out);
+    lists::copy(t.lengths, lengths_out);
+    lists::copy(t.values, values_out);
+    Ok(accepted)
 }

@@ -1,9 +1,11 @@
 -- What the packer's steps give.
-use Rattle.std.specs.Prelude.{ℕ, ◌≤◌, ◌≡◌, length}
-use Rattle.outcomes.specs.Refusals.{accepted}
+use Rattle.std.specs.Prelude.{ℕ, Result, is_ok, true, ◌≤◌, ◌≡◌, length}
+use Rattle.outcomes.specs.declared.numbers.Refused.{Refused}
 use Rattle.tables.specs.Tables.{Table, Formed}
 use Rattle.codec.specs.Writing.{slip_of}
 use Rattle.answers.specs.declared.Answer.{Answer}
+use Rattle.answers.specs.declared.Accepted.{Accepted}
+use Rattle.answers.specs.Answers.{answer_of}
 use Rattle.pack.specs.Pack.{rows_of}
 
 -- a table of the form whose slip has room
@@ -12,6 +14,6 @@ pub record Fitting (t : Table) (room : ℕ) : Type 0 where
   pub fits : length (slip_of (rows_of t)) ≤ room
 
 -- the packer's answer, and where it accepts what it has found
-pub record AnswerGives (t : Table) (room : ℕ) (a r : Answer) : Type 0 where
-  pub answer : r ≡ a
-  pub roomy : r.number ≡ accepted → Fitting t room
+pub record AnswerGives (t : Table) (room : ℕ) (a : Answer) (r : Result Accepted Refused) : Type 0 where
+  pub answer : answer_of r ≡ a
+  pub roomy : is_ok r ≡ true → Fitting t room

@@ -1,15 +1,15 @@
 -- What the packer answers and leaves: "Packer: columns unequal or over 1,023 rows (16), 4, each row (16), values area not the sum of
 -- lengths (16), 1, then 5 to 8 by entry, 9, 11."
-use Rattle.std.specs.Prelude.{ℕ, Bool, not, cond, List, [], ◌∷◌, ltb, eqb, length}
+use Rattle.std.specs.Prelude.{ℕ, Result, Ok, Err, Bool, not, cond, List, [], ◌∷◌, ltb, eqb, length}
 use Rattle.outcomes.specs.Chain.{chain}
 use Rattle.trees.specs.Rules.{max_bytes}
 use Rattle.trees.specs.Rows.{Entry, Tag, Verdict, faulty, left, verdict}
-use Rattle.outcomes.specs.Refusals.{accepted, too_long, no_nodes, not_one_tree, no_room, bad_table}
+use Rattle.outcomes.specs.Refusals.{accepted, too_long, no_nodes, not_one_tree, no_room, bad_table, number_of}
+use Rattle.outcomes.specs.declared.numbers.Refused.{Refused}
 use Rattle.tables.specs.Tables.{Table, entries, columns_fit, first_bad, row_bad, area_fits}
 use Rattle.codec.specs.Writing.{slip_of}
 use Rattle.engine.specs.Engine.{one_tree, root_label}
 use Rattle.answers.specs.declared.Answer.{Answer}
-use Rattle.pack.specs.declared.Fault.{Fault}
 use Rattle.answers.specs.Answers.{refused, taken}
 use Rattle.outcomes.specs.Outcome.{Output, over}
 
@@ -20,6 +20,16 @@ rows_of t = entries t.types t.counts t.lengths t.values
 -- the number of the first row that is not of the form; the number of rows where all are
 abbrev pub bad_row : Table → ℕ
 bad_row t = first_bad 0 t.types t.counts t.lengths
+
+-- the refusal of a table that has not the form, and its place; or 0
+pub record Fault : Type 0 where
+  pub number : ℕ
+  pub place : ℕ
+
+-- what the code tells of the form
+abbrev pub fault_seen : Result (Unit {0}) Refused → Fault
+fault_seen (Ok u) = record { number = accepted; place = 0 }
+fault_seen (Err r) = record { number = number_of r.refusal; place = r.place }
 
 -- "columns unequal or over 1,023 rows (16), 4, each row (16), values area not the sum of lengths (16)"; the tests of 16 are those of `tableFits`
 abbrev pub fault_tests : Table → List (Bool × Fault)

@@ -13,8 +13,7 @@ use Rattle.tables.specs.Measure.{row_bits, rows_bits, table_bits}
 use Rattle.codec.specs.MeasureLaws.{slip_bytes_measured, node_bits, dangling_bits, pair_bits}
 use Rattle.codec.specs.ProperLaws.{table_formed}
 use Rattle.codec.specs.TableLaws.{row_cases, form_cons}
-use Rattle.engine.specs.Engine.{one_tree, root_label, told}
-use Rattle.engine.specs.declared.judge.Judged.{Judged}
+use Rattle.engine.specs.Engine.{Judged, one_tree, root_label, told}
 use Rattle.answers.specs.declared.Answer.{Answer}
 use Rattle.answers.specs.Answers.{refused, taken}
 use Rattle.slips.specs.Verdicts.{Refuses, verdict_refuses}

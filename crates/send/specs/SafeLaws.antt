@@ -1,13 +1,13 @@
 -- Why the walk of a tree's table is safe: the children of each row wait, and its cells keep the limits.
-use Rattle.std.specs.Prelude.{ℕ, zero, suc, ◌+◌, ◌-◌, ◌≤◌, ◌<◌, ◌≡◌, refl, true, ◌&&◌, ◌||◌, List, [], ◌∷◌, ◌++◌, map, leb, eqb, length, take, drop, get_or}
-use Rattle.std.proofs.Common.{sym, ap, ap₂, ◌∙◌, subst, append_assoc, append-nil, arith, length-take-le, eqb-true, leb-true}
-use Rattle.lists.specs.TestsLaws.{and_left, and_right, or_cases}
+use Rattle.std.specs.Prelude.{ℕ, zero, suc, ◌+◌, ◌-◌, ◌≤◌, ◌<◌, ◌≡◌, refl, List, [], ◌∷◌, ◌++◌, map, length, take, drop, get_or}
+use Rattle.std.proofs.Common.{sym, ap, ap₂, ◌∙◌, subst, append_assoc, append-nil, arith, length-take-le}
 use Rattle.trees.specs.Nodes.{Node, Run, inner, leaf, nil, cons, count}
-use Rattle.trees.specs.Rules.{max_type, max_value, max_children, label_bytes}
+use Rattle.trees.specs.Rules.{max_value, max_children}
 use Rattle.trees.specs.Rows.{Entry, node, tip, rows, rows_in}
-use Rattle.tables.specs.Tables.{entries, entry_of, row_fits, internal_row, dangling_row, pair_row, sum, table, Formed}
+use Rattle.tables.specs.Tables.{entries, entry_of, sum, table, Formed}
 use Rattle.tables.specs.TablesLaws.{formed_row}
 use Rattle.tables.specs.Records.{TreeTable}
+use Rattle.codec.specs.TableLaws.{row_small}
 use Rattle.send.specs.Blocks.{Enough}
 
 -- how many children an entry names
@@ -54,20 +54,6 @@ enough_tree n ts cs ls vs t =
     (ap (map count_of) (append-nil (rows n) ∙ sym t.rows_are) ∙ counts_named ts cs ls vs t.form.columns.counts_long t.form.columns.lengths_long)
     (enough_rows n [] 0 tt)
 
--- a row of the form keeps the limits
-row_low : (t c l : ℕ) → row_fits t c l ≡ true → (c ≤ max_children) × (l ≤ max_value)
-unfolding row_fits
-row_low t c l e =
-    or_cases (internal_row t c l || dangling_row t c l) (pair_row t c l) e
-    (λ h. or_cases (internal_row t c l) (dangling_row t c l) h
-    (λ i. let z : l ≡ 0 = eqb-true l 0 (and_right (eqb t 0) (eqb l 0) (and_left _ (leb 1 c) (and_left _ (leb c max_children) i))) in
-    (leb-true c max_children (and_right (eqb t 0 && eqb l 0 && leb 1 c) (leb c max_children) i), omega arith))
-    (λ d. let z : c ≡ 0 = eqb-true c 0 (and_right (eqb t 0) (eqb c 0) (and_left _ (eqb l label_bytes) d)) in
-    let y : l ≡ label_bytes = eqb-true l label_bytes (and_right (eqb t 0 && eqb c 0) (eqb l label_bytes) d) in
-    (omega arith, omega arith)))
-    (λ p. let z : c ≡ 0 = eqb-true c 0 (and_right (leb 1 t && leb t max_type) (eqb c 0) (and_left _ (leb l max_value) p)) in
-    (omega arith, leb-true l max_value (and_right (leb 1 t && leb t max_type && eqb c 0) (leb l max_value) p)))
-
 -- each row of a tree's table keeps them
 pub table_low :
     (n : Node) (ts cs ls vs : List ℕ)
@@ -81,4 +67,5 @@ table_low n ts cs ls vs t i h =
       rows = t.form.rows;
       area = length-take-le (sum ls) vs t.form.area;
     } in
-    row_low (get_or ts i 0) (get_or cs i 0) (get_or ls i 0) (formed_row (table ts cs ls (take (sum ls) vs)) f i h)
+    let low = row_small (get_or ts i 0) (get_or cs i 0) (get_or ls i 0) (formed_row (table ts cs ls (take (sum ls) vs)) f i h) in
+    (low.count, low.length)

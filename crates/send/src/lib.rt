@@ -6,46 +6,44 @@ pub mod blocks;
 ghost use Rattle.tables.specs.Tables.{entries, FormedIn};
 ghost use Rattle.outcomes.specs.Outcome.{Leaves};
 ghost use Rattle.send.specs.Clauses.{SendTreeAsks, SendTreeGives};
-ghost use Rattle.send.specs.Sent.{sent};
+ghost use Rattle.send.specs.Sent.{sent, sent_answer};
 
-use answers::Answer;
+use answers::Accepted;
 use codec::{measure, write};
-use outcomes::Refusal;
+use outcomes::numbers::Refusal;
 use tables::limits::Slip;
+use tables::table::Table;
 
 // Writes the slip of a table whose blocks and root label are told, or answers 11.
 pub fn send(
-    types: &[u16],
-    counts: &[u16],
-    lengths: &[u16],
-    values: &[u8],
+    t: Table,
     blocks: usize,
     label: [u8; Slip::LABEL_BYTES],
     out: &mut [u8],
-) -> Answer
-    requires { FormedIn types.now counts.now lengths.now values.now }
-    ensures { Leaves (sent (entries types.now counts.now lengths.now values.now) blocks label out.old) result out.new }
+) -> Result<Accepted, Refusal>
+    requires { FormedIn t.types.now t.counts.now t.lengths.now t.values.now }
+    ensures { Leaves (sent (entries t.entry.types.now t.entry.counts.now t.entry.lengths.now t.entry.values.now) blocks label out.old) (sent_answer result) out.new }
 {
-    let bytes = measure::size(types, counts, lengths);
-    if out.len() < bytes {
-        return answers::refused(Refusal::NO_ROOM, 0);
+    let length = measure::size(t);
+    if out.len() < length {
+        return Err(Refusal::NoRoom);
     }
-    write::write(types, counts, lengths, values, out);
-    answers::taken(bytes, blocks, label)
+    write::write(t, out);
+    Ok(Accepted {
+        length,
+        blocks,
+        label,
+    })
 }
 
 // The same for the table of a tree, whose blocks are counted here.
 pub fn send_tree(
-    types: &[u16],
-    counts: &[u16],
-    lengths: &[u16],
-    values: &[u8],
+    t: Table,
     label: [u8; Slip::LABEL_BYTES],
     out: &mut [u8],
-) -> Answer
-    requires { SendTreeAsks types.now counts.now lengths.now values.now }
-    ensures { SendTreeGives types.now counts.now lengths.now values.now label out.old result out.new }
+) -> Result<Accepted, Refusal>
+    requires { SendTreeAsks t.types.now t.counts.now t.lengths.now t.values.now }
+    ensures { SendTreeGives t.entry.types.now t.entry.counts.now t.entry.lengths.now t.entry.values.now label out.old (sent_answer result) out.new }
 {
-    let total = blocks::blocks(counts, lengths);
-    send(types, counts, lengths, values, total, label, out)
+    send(t, blocks::blocks(t.counts, t.lengths), label, out)
 }

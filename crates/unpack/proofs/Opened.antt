@@ -29,7 +29,6 @@ opened_table {s} {r} {types} {counts} {lengths} {values} o a b c =
     ∙ ap table_of o.rows
 
 -- the same answer and the same table are handed out alike
-pub handed_as : {a a' r : Answer} {t t' : Table} (b : Table) {types counts lengths values : List ℕ} → a ≡ a' → t ≡ t'
-    → Leaves (handed_of a t b) r (table types counts lengths values) → Leaves (handed_of a' t' b) r (table types counts lengths values)
-handed_as {r = r} b {types} {counts} {lengths} {values} e f l =
-    subst₂ (λ (x : Answer) (y : Table). Leaves (handed_of x y b) r (table types counts lengths values)) e f l
+pub handed_as : {a a' r : Answer} {t t' : Table} (b : Table) {left : Table} → a ≡ a' → t ≡ t'
+    → Leaves (handed_of a t b) r left → Leaves (handed_of a' t' b) r left
+handed_as {r = r} b {left} e f l = subst₂ (λ (x : Answer) (y : Table). Leaves (handed_of x y b) r left) e f l

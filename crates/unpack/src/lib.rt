@@ -8,13 +8,14 @@ ghost use Rattle.tables.specs.Tables.{table};
 ghost use Rattle.slips.specs.Check.{reading_of, body_of};
 ghost use Rattle.slips.specs.Opening.{Counted};
 ghost use Rattle.outcomes.specs.Outcome.{Leaves};
+ghost use Rattle.answers.specs.Answers.{answer_of};
 ghost use Rattle.handing.specs.Handing.{handed_of};
 ghost use Rattle.unpack.specs.Unpack.{table_of, unpack_of};
 
-use answers::Answer;
-use outcomes::Refusal;
+use answers::{Accepted, Answer};
+use outcomes::numbers::Refused;
 use slips::{header, open};
-use tables::areas::Full;
+use tables::areas::{Areas, Full};
 use tables::limits::Slip;
 
 // A slip whose header is taken.
@@ -25,37 +26,43 @@ fn unpack_taken(
     counts_out: &mut [u16],
     lengths_out: &mut [u16],
     values_out: &mut [u8],
-) -> Answer
+) -> Result<Accepted, Refused>
     requires { Counted s.now n max_bytes max_nodes }
-    ensures { Leaves (handed_of (body_of Sha256.label composed_text s.now) (table_of (reading_of s.now).rows) (table types_out.old counts_out.old lengths_out.old values_out.old)) result (table types_out.new counts_out.new lengths_out.new values_out.new) }
+    ensures { Leaves (handed_of (body_of Sha256.label composed_text s.now) (table_of (reading_of s.now).rows) (table types_out.old counts_out.old lengths_out.old values_out.old)) (answer_of result) (table types_out.new counts_out.new lengths_out.new values_out.new) }
 {
-    let mut types = [0u16; Slip::MAX_NODES];
-    let mut counts = [0u16; Slip::MAX_NODES];
-    let mut lengths = [0u16; Slip::MAX_NODES];
-    let mut values = [0u8; Slip::MAX_BYTES];
-    let mut labels = [0u8; Full::LABELS];
-    let o = open::open_in(
+    let mut areas = Areas::<{ Slip::MAX_NODES }, { Slip::MAX_BYTES }, { Full::LABELS }>::new();
+    let opened = open::open_in(
         s,
         n,
-        &mut types,
-        &mut counts,
-        &mut lengths,
-        &mut values,
-        &mut labels,
+        &mut areas.types,
+        &mut areas.counts,
+        &mut areas.lengths,
+        &mut areas.values,
+        &mut areas.labels,
     );
-    let rows = o.rows;
-    let used = o.used;
+    let t = areas.table(opened.rows, opened.used);
     handing::hand_out(
-        o.answer,
-        &types[..rows],
-        &counts[..rows],
-        &lengths[..rows],
-        &values[..used],
+        opened.answer,
+        t,
         types_out,
         counts_out,
         lengths_out,
         values_out,
     )
+}
+
+// The header's refusal, or what is behind it.
+fn unpacked(
+    s: &[u8],
+    types_out: &mut [u16],
+    counts_out: &mut [u16],
+    lengths_out: &mut [u16],
+    values_out: &mut [u8],
+) -> Result<Accepted, Refused>
+    ensures { Leaves (unpack_of Sha256.label composed_text s.now (table types_out.old counts_out.old lengths_out.old values_out.old)) (answer_of result) (table types_out.new counts_out.new lengths_out.new values_out.new) }
+{
+    let n = header::header_of(s)?;
+    unpack_taken(s, n, types_out, counts_out, lengths_out, values_out)
 }
 
 // Checks the slip and writes its table: one row an entry in each column, and the value bytes.
@@ -68,10 +75,5 @@ pub fn unpack(
 ) -> Answer
     ensures { Leaves (unpack_of Sha256.label composed_text s.now (table types_out.old counts_out.old lengths_out.old values_out.old)) result (table types_out.new counts_out.new lengths_out.new values_out.new) }
 {
-    let h = header::header_of(s);
-    if h.number != Refusal::ACCEPTED {
-        return answers::refused(h.number, 0);
-    }
-    let n = h.count;
-    unpack_taken(s, n, types_out, counts_out, lengths_out, values_out)
+    Answer::from(unpacked(s, types_out, counts_out, lengths_out, values_out))
 }

@@ -1,42 +1,43 @@
-use native.Mathlib.Omega.{arith}
-use mathlib.Core.Path.{refl, sym, ◌∙◌}
-use lib.ListN.{length}
+use Rattle.std.proofs.Common.{length, sym, ◌∙◌}
+use Rattle.std.proofs.lemmas.Result.{err_from_is_err_and}
+use Rattle.tables.specs.Seen.{seen}
 use Rattle.tables.specs.Tables.{table}
-use Rattle.handing.proofs.Copying.{Fits, fits_told, handed_lacking, handed_taken, copied_whole}
+use Rattle.handing.proofs.Copying.{Fits, fits_told, copied, lacking, handed, handed_back}
 use Rattle.handing.proofs.hand_out.Goals as goal
 use Rattle.handing.proofs.hand_out.Goals.{Else-lacks_room}
 
+pub returns-in_err-accepted : goal.returns-in_err-accepted
+returns-in_err-accepted c =
+    let p = err_from_is_err_and c.from_residual.result c.from_residual.ensures.1 in
+    rw (p.1, p.2, c.in_err-accepted.was) (handed_back _ _ _)
+
 pub returns-then-lacks_room : goal.returns-then-lacks_room
 returns-then-lacks_room c =
-    handed_lacking _ _ _ _ _ _ _ _ (omega arith) (sym c.lacks_room.ensures ∙ c.if-lacks_room.true) c.refused.ensures refl refl refl refl
+    rw (c.into.ensures, c.in_ok-accepted.was) (lacking _ _ _ (sym c.lacks_room.ensures ∙ c.if-lacks_room.true))
 
 -- each part fits its buffer
 roomy : (c : Else-lacks_room) →
     let a = c.args in
-    Fits (table a.types.now a.counts.now a.lengths.now a.values.now) (length a.types_out.now) (length a.counts_out.now) (length a.lengths_out.now) (length a.values_out.now)
+    Fits (seen a.t) (length a.types_out.now) (length a.counts_out.now) (length a.lengths_out.now) (length a.values_out.now)
 roomy c = fits_told _ _ _ _ _ (sym c.lacks_room.ensures ∙ c.if-lacks_room.false)
 
-pub copy_cells-requires : goal.copy_cells-requires
-copy_cells-requires c =
-    (roomy (goal.at.copy_cells-requires c).Else-lacks_room).types_fit
-
-pub copy_cells-requires-2 : goal.copy_cells-requires-2
-copy_cells-requires-2 c =
-    (roomy (goal.at.copy_cells-requires-2 c).Else-lacks_room).counts_fit
-
-pub copy_cells-requires-3 : goal.copy_cells-requires-3
-copy_cells-requires-3 c =
-    (roomy (goal.at.copy_cells-requires-3 c).Else-lacks_room).lengths_fit
-
 pub copy-requires : goal.copy-requires
-copy-requires c =
-    (roomy (goal.at.copy-requires c).Else-lacks_room).values_fit
+copy-requires c = (roomy (goal.at.copy-requires c).Else-lacks_room).types_fit
+
+pub copy-requires-2 : goal.copy-requires-2
+copy-requires-2 c = (roomy (goal.at.copy-requires-2 c).Else-lacks_room).counts_fit
+
+pub copy-requires-3 : goal.copy-requires-3
+copy-requires-3 c = (roomy (goal.at.copy-requires-3 c).Else-lacks_room).lengths_fit
+
+pub copy-requires-4 : goal.copy-requires-4
+copy-requires-4 c = (roomy (goal.at.copy-requires-4 c).Else-lacks_room).values_fit
 
 pub returns : goal.returns
 returns c =
     let a = c.args in
-    handed_taken _ _ _ _ _ _ _ _ (omega arith) (sym c.lacks_room.ensures ∙ c.if-lacks_room.false) refl
-    c.copy_cells.ensures
-    c.copy_cells-2.ensures
-    c.copy_cells-3.ensures
-    (c.copy.ensures.1 ∙ copied_whole a.values.now a.values_out.now)
+    let t = copied a.t.types.now a.types_out.now c.copy.ensures.1 in
+    let n = copied a.t.counts.now a.counts_out.now c.copy-2.ensures.1 in
+    let l = copied a.t.lengths.now a.lengths_out.now c.copy-3.ensures.1 in
+    let v = copied a.t.values.now a.values_out.now c.copy-4.ensures.1 in
+    rw c.in_ok-accepted.was (handed _ _ _ (sym c.lacks_room.ensures ∙ c.if-lacks_room.false) (λ i. table (t i) (n i) (l i) (v i)))

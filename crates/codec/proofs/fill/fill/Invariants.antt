@@ -1,10 +1,5 @@
--- `codec::fill::fill` meets its contract. The loop's invariant: `Going`, and the buffers keep their lengths. Assumes nothing.
-use Prim.Native.Nat.{◌-◌}
 use Rattle.codec.proofs.ReadTurns.{Going}
 use Rattle.codec.proofs.fill.fill.Given as goal
 
 abbrev pub invariant-loop-i : goal.invariant-loop-i
 invariant-loop-i l = Going l.s l.n l.types l.counts l.lengths l.values l.at l.used l.i
-
-abbrev pub decreases-loop-i : goal.decreases-loop-i
-decreases-loop-i l = l.n - l.i

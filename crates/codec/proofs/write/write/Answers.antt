@@ -2,28 +2,35 @@ use mathlib.Core.Path.{◌∙◌}
 use native.Mathlib.Omega.{arith}
 use Rattle.codec.proofs.WriteTurns.{Cells, value_fits, row_form, row_room, turned, closed, head_room, rows_room, written}
 use Rattle.codec.proofs.write.write.Goals as goal
+use Rattle.codec.proofs.write.write.Goals.{After-cell}
 
 pub write_head-pen-requires : goal.write_head-pen-requires
 write_head-pen-requires c =
-    (c.requires.form.columns.few, head_room c.args.types.now c.args.counts.now c.args.lengths.now c.args.values.now c.args.out.now c.requires)
+    let t = c.args.t in
+    (c.requires.form.columns.few, head_room t.types.now t.counts.now t.lengths.now t.values.now c.args.out.now c.requires)
+
+-- what the cells of row i tell
+row : (c : After-cell) → Cells c.args.t.types.now c.args.t.counts.now c.args.t.lengths.now c.loop-i.i c.cell-kind.result c.cell-count.result c.cell.result
+row c = record { within = c.loop-i-test.true; type = c.cell-kind.ensures.0; count = c.cell-count.ensures.0; size = c.cell.ensures.0 }
 
 pub slice_bounds-write_row-end : goal.slice_bounds-write_row-end
 slice_bounds-write_row-end c =
-    let l = c.loop-i in
-    value_fits l.invariant.0 c.requires.form.columns (record { within = c.loop-i-test.true; type = c.cell-kind.ensures.0; count = c.cell-count.ensures.0; size = c.cell.ensures.0 })
+    value_fits c.loop-i.invariant.0 c.requires.form.columns (row (goal.at.slice_bounds-write_row-end c).After-cell)
 
-pub write_row-pen-requires : goal.write_row-pen-requires
-write_row-pen-requires c =
+pub write_row-requires : goal.write_row-requires
+write_row-requires c =
     let l = c.loop-i in
     let h = c.write_head-pen in
-    let row : Cells _ _ _ l.i _ _ _ = record { within = c.loop-i-test.true; type = c.cell-kind.ensures.0; count = c.cell-count.ensures.0; size = c.cell.ensures.0 } in
-    (row_form l.invariant.0 c.requires.form.columns row, row_room l.invariant.0 c.requires.form.columns row (rows_room _ _ _ _ c.args.out.now c.requires h.result h.new.out h.ensures h.auto.out) l.invariant.1)
+    let r = row (goal.at.write_row-requires c).After-cell in (
+      row_form l.invariant.0 c.requires.form.columns r,
+      row_room l.invariant.0 c.requires.form.columns r (rows_room _ _ _ _ c.args.out.now c.requires h.result h.new.out h.ensures h.auto.out) l.invariant.1,
+    )
 
 pub loop-i-preserved : goal.loop-i-preserved
 loop-i-preserved c =
     let l = c.loop-i in
-    let w = c.write_row-pen in
-    (turned l.invariant.0 c.requires.form.columns (record { within = c.loop-i-test.true; type = c.cell-kind.ensures.0; count = c.cell-count.ensures.0; size = c.cell.ensures.0 }) w.result w.new.out w.ensures, w.auto.out ∙ l.invariant.1)
+    let w = c.write_row in
+    (turned l.invariant.0 c.requires.form.columns (row (goal.at.loop-i-preserved c).After-cell) w.new.pen w.new.out w.ensures, w.auto.out ∙ l.invariant.1)
 
 pub finish-requires : goal.finish-requires
 finish-requires c =
