@@ -1,8 +1,23 @@
 -- What the stack engine answers of a table's entries, and the labels that it leaves.
-use Rattle.std.specs.Prelude.{ℕ, ◌*◌, ◌-◌, ◌<◌, Bool, false, cond, List, [], ◌∷◌, ◌≡◌, eqb, length, take, drop, get_or}
+use Rattle.std.specs.Prelude.{ℕ, ◌*◌, ◌-◌, ◌<◌, Bool, false, cond, List, [], ◌∷◌, ◌≡◌, eqb, length, take, drop, get_or, Result, Ok, Err, is_some, unwrap_or}
 use Rattle.trees.specs.Rules.{label_bytes, no_label}
 use Rattle.trees.specs.Rows.{Entry, Tag, Step, fault, next, Verdict, faulty, left, step_of}
-use Rattle.engine.specs.declared.judge.Judged.{Judged}
+use Rattle.outcomes.specs.Refusals.{accepted, number_of}
+use Rattle.outcomes.specs.declared.numbers.Refused.{Refused}
+use Rattle.engine.specs.declared.judge.Judged as code
+
+-- what is told of a table's rows: the first refusal with its entry, or whether one tree waits, its label, and the blocks
+pub record Judged : Type 0 where
+  pub number : ℕ
+  pub place : ℕ
+  pub one : Bool
+  pub blocks : ℕ
+  pub label : List ℕ
+
+-- what the code tells
+abbrev pub judged_seen : Result code.Judged Refused → Judged
+judged_seen (Ok j) = record { number = accepted; place = 0; one = is_some j.root; blocks = j.blocks; label = unwrap_or j.root no_label }
+judged_seen (Err r) = record { number = number_of r.refusal; place = r.place; one = false; blocks = 0; label = no_label }
 
 -- one tree waits, "with a root of type 0"
 abbrev pub one_tree : List Tag → Bool
@@ -16,7 +31,7 @@ root_label [] = no_label
 root_label (g ∷ []) = cond (eqb g.kind 0) g.text no_label
 root_label (g ∷ (h ∷ gs)) = no_label
 
--- the engine's answer to a verdict: the first refusal with its entry, or whether one tree waits, its label, and the blocks
+-- what is told of a verdict
 unfoldable pub told : Verdict → Judged
 told (faulty k i) = record { number = k; place = i; one = false; blocks = 0; label = no_label }
 told (left st b) = record { number = 0; place = 0; one = one_tree st; blocks = b; label = root_label st }

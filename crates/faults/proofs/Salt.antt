@@ -1,25 +1,23 @@
 -- The salt rule as it is computed, over the types and label lengths of the children.
-use Prim.Native.Nat.{ℕ, ◌+◌, ◌≤◌, ◌<◌}
+use Prim.Native.Nat.{ℕ, ◌≤◌, ◌<◌}
 use mathlib.Core.Path.{◌≡◌, refl, ap, ap₂, ◌∙◌}
 use mathlib.Core.Bool.{Bool, true, false, not, ◌&&◌, ◌||◌, false≢true}
 use mathlib.Core.List.{List, [], ◌∷◌, map}
 use native.Mathlib.Nat.{le_of_eq}
 use native.Mathlib.Omega.{arith}
-use borrow.Author.Tests.{eqb-true, eq-eqb, ne_eqb, le-leb, lt-leb, ltb-true, ltb-false}
-use lib.Dec.{eqb, leb, ltb}
-use lib.ListN.{length, drop, get_or, drop_of_length-le}
+use borrow.Author.Tests.{eqb-true, eq-eqb, ne_eqb, le-leb, lt-leb}
+use lib.Dec.{eqb, leb}
+use lib.ListN.{length, drop, get_or}
+use Rattle.std.specs.List.{list_all}
 use Rattle.lists.specs.Lists.{all}
 use Rattle.trees.specs.Nodes.{Head}
 use Rattle.trees.specs.Rules.{salt_type, salt_bytes, is_salt, salt_long, salted}
 use Rattle.trees.specs.Rows.{Tag, head_of}
 use Rattle.faults.specs.Waiting.{kind_of, size_of}
-use Rattle.lists.specs.PartsLaws.{next_cons}
-use Rattle.lists.specs.TestsLaws.{and_false, or_true}
 
 -- the types of the children behind the first: none is a salt, and without a salt before them none is above it
-unfoldable pub later : Bool → List ℕ → Bool
-later salt [] = true
-later salt (k ∷ ks) = not (eqb k salt_type) && (salt || leb k salt_type) && later salt ks
+abbrev pub later : Bool → List ℕ → Bool
+later salt ks = list_all (λ k. not (eqb k salt_type) && (salt || leb k salt_type)) ks
 
 -- the rule: a first salt is of its length, those behind it keep theirs, and the first is a salt or of type 0
 unfoldable pub keeps : List ℕ → List ℕ → Bool
@@ -43,7 +41,6 @@ one_more true false false d = refl
 one_more false b c d = refl
 
 later_salt : (gs : List Tag) → later true (map kind_of gs) ≡ none (map head_of gs)
-unfolding later
 later_salt [] = refl
 later_salt (g ∷ gs) = go (not (eqb g.kind salt_type)) (later_salt gs)
   where
@@ -52,7 +49,6 @@ later_salt (g ∷ gs) = go (not (eqb g.kind salt_type)) (later_salt gs)
     go false e = refl
 
 later_bare : (gs : List Tag) → later false (map kind_of gs) ≡ none (map head_of gs) && low (map head_of gs)
-unfolding later
 later_bare [] = refl
 later_bare (g ∷ gs) =
     ap (λ (b : Bool). not (eqb g.kind salt_type) && leb g.kind salt_type && b) (later_bare gs)
@@ -123,34 +119,16 @@ module _ (kinds sizes : List ℕ) {first size : ℕ} (f : first ≡ get_or kinds
   unfolding keeps
   whole_salt e n = rw (← f, ← s, eq-eqb first salt_type e, n)
 
-  pub no_salt : (first ≡ salt_type → ⊥) → keeps kinds sizes ≡ later (eqb first salt_type) (drop 1 kinds) && leb first salt_type
-  unfolding keeps
-  no_salt n = rw (← f, ne_eqb first salt_type n)
+pub no_salt : (kinds sizes : List ℕ) {first : ℕ} → first ≡ get_or kinds 0 0 → (first ≡ salt_type → ⊥)
+    → keeps kinds sizes ≡ later (eqb first salt_type) (drop 1 kinds) && leb first salt_type
+unfolding keeps
+no_salt kinds sizes {first} f n = rw (← f, ne_eqb first salt_type n)
 
--- a later child, of type k, where the first is of type `first`
-module _ (kinds : List ℕ) (i first : ℕ) {k : ℕ} (h : i < length kinds) (e : k ≡ get_or kinds i 0) where
-  later_next :
-      (salt : Bool) → later salt (drop i kinds) ≡ not (eqb k salt_type) && (salt || leb k salt_type) && later salt (drop (i + 1) kinds)
-  unfolding later
-  later_next salt = rw (next_cons kinds i 0 h, e)
+-- by the first child's type
+pub kept : (b : Bool) (first : ℕ) → first ≤ salt_type → (b && leb first salt_type) ≡ b
+kept true first h = le-leb first salt_type h
+kept false first h = refl
 
-  pub second_salt : k ≡ salt_type → later (eqb first salt_type) (drop i kinds) ≡ false
-  second_salt q = later_next (eqb first salt_type) ∙ rw (eq-eqb k salt_type q)
-
-  pub unsalted : (first ≡ salt_type → ⊥) → ltb salt_type k ≡ true → later (eqb first salt_type) (drop i kinds) ≡ false
-  unsalted n q =
-      let m : leb k salt_type ≡ false = lt-leb k salt_type (ltb-true salt_type k q) in
-      later_next (eqb first salt_type) ∙ rw (ne_eqb first salt_type n, m, and_false (not (eqb k salt_type)))
-
-  pub behind_salt_on : (k ≡ salt_type → ⊥) → first ≡ salt_type → later (eqb first salt_type) (drop i kinds) ≡ later (eqb first salt_type) (drop (i + 1) kinds)
-  behind_salt_on n q = later_next (eqb first salt_type) ∙ rw (ne_eqb k salt_type n, eq-eqb first salt_type q)
-
-  pub bare_on : (k ≡ salt_type → ⊥) → ltb salt_type k ≡ false → later (eqb first salt_type) (drop i kinds) ≡ later (eqb first salt_type) (drop (i + 1) kinds)
-  bare_on n q =
-      later_next (eqb first salt_type)
-      ∙ rw (ne_eqb k salt_type n, le-leb k salt_type (ltb-false salt_type k q), or_true (eqb first salt_type))
-
--- no child is left
-pub later_end : (salt : Bool) (kinds : List ℕ) (i : ℕ) → length kinds ≤ i → later salt (drop i kinds) ≡ true
-unfolding later
-later_end salt kinds i h = ap (later salt) (drop_of_length-le kinds h)
+pub not_kept : (b : Bool) (first : ℕ) → salt_type < first → (b && leb first salt_type) ≡ false
+not_kept true first h = lt-leb first salt_type h
+not_kept false first h = refl

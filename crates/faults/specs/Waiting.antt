@@ -1,5 +1,7 @@
 -- The columns of the nodes that wait, and the refusal of a step.
-use Rattle.std.specs.Prelude.{ℕ, max, ◌≡◌, List, [], ◌∷◌, map, length}
+use Rattle.std.specs.Prelude.{ℕ, max, ◌≡◌, List, [], ◌∷◌, map, length, Result, Ok, Err}
+use Rattle.outcomes.specs.Refusals.{accepted, number_of}
+use Rattle.outcomes.specs.declared.numbers.Refusal.{Refusal}
 use Rattle.trees.specs.Rows.{Tag, Step, fault, next}
 
 -- a column of the stack has one of these of each node
@@ -22,10 +24,10 @@ abbrev pub step_fault : Step → ℕ
 step_fault (fault k) = k
 step_fault (next st c) = 0
 
--- three columns of one length
-pub record AlikeColumns (kinds heights sizes : List ℕ) : Type 0 where
-  pub heights_long : length heights ≡ length kinds
-  pub sizes_long : length sizes ≡ length kinds
+-- the number of the code's refusal; 0 where it has none
+abbrev pub refusal_number : {A : Type 0} → Result A Refusal → ℕ
+refusal_number (Ok a) = accepted
+refusal_number (Err r) = number_of r
 
 -- the three columns of a stack
 pub record StackColumns (st : List Tag) (kinds heights sizes : List ℕ) : Type 0 where

@@ -1,31 +1,35 @@
 // Which refusal an entry meets on the stack: 5, 6 and 7 at an internal node, 8 at a leaf.
 #![tactic(auto)]
 
-ghost use Rattle.std.specs.Prelude.{◌≡◌, List, map, ℕ, ◌<◌, length};
-ghost use Rattle.trees.specs.Rules.{salted};
+ghost use Rattle.std.specs.Prelude.{◌≡◌, List, map, ℕ, ◌<◌, length, not, ◌&&◌, ◌||◌, eqb, leb};
+ghost use Rattle.std.specs.List.{list_all};
+ghost use Rattle.trees.specs.Rules.{salt_type, salted};
 ghost use Rattle.trees.specs.Rows.{Tag, head_of, step_of, node, tip};
 ghost use Rattle.tables.specs.Tables.{entry_of};
 ghost use Rattle.titles.specs.Compose.{composed_text};
-ghost use Rattle.faults.specs.Waiting.{StackColumns, AlikeColumns, kind_of, size_of, greatest, step_fault};
+ghost use Rattle.faults.specs.Waiting.{StackColumns, kind_of, size_of, greatest, step_fault, refusal_number};
 
-use outcomes::Refusal;
-use tables::form;
+pub mod waiting;
+
+use crate::waiting::Waiting;
+use outcomes::numbers::Refusal;
 use tables::limits::Slip;
 
 // "its highest child"
 pub fn highest(heights: &[u16]) -> usize
     ensures { (result ≡ greatest heights.now) × (result < 65536) }
 {
-    let mut most = 0;
-    let mut i = 0;
-    while i < heights.len() {
-        let height = form::cell(heights, i);
-        if most < height {
-            most = height;
-        }
-        i += 1;
-    }
-    most
+    usize::from(heights.iter().fold(0u16, |most, height| most.max(*height)))
+}
+
+// Behind the first child none is a salt, and without a salt before them each is of type 0.
+fn behind(salt: bool, kinds: &[u16]) -> bool
+    ensures { result ≡ list_all (λ k. not (eqb k salt_type) && (salt || leb k salt_type)) kinds.now }
+{
+    kinds.iter().all(|kind| {
+        let kind = usize::from(*kind);
+        kind != Slip::SALT_TYPE && (salt || kind < Slip::SALT_TYPE)
+    })
 }
 
 // The salt rule: behind a whole salt no second one; without a salt no child but of type 0.
@@ -33,80 +37,51 @@ fn salt_rule(kinds: &[u16], sizes: &[u16]) -> bool
     requires { (0 < length kinds.now) × (length sizes.now ≡ length kinds.now) }
     ensures { (gs : List Tag) → kinds.now ≡ map kind_of gs → sizes.now ≡ map size_of gs → result ≡ salted (map head_of gs) }
 {
-    let first = form::cell(kinds, 0);
-    let size = form::cell(sizes, 0);
-    if first == Slip::SALT_TYPE && size != Slip::SALT_BYTES {
+    let first = usize::from(kinds[0]);
+    let salt = first == Slip::SALT_TYPE;
+    if salt && usize::from(sizes[0]) != Slip::SALT_BYTES {
         return false;
     }
-    let mut i = 1;
-    while i < kinds.len() {
-        let kind = form::cell(kinds, i);
-        if kind == Slip::SALT_TYPE {
-            return false;
-        }
-        if first != Slip::SALT_TYPE && Slip::SALT_TYPE < kind {
-            return false;
-        }
-        i += 1;
-    }
-    first <= Slip::SALT_TYPE
+    first <= Slip::SALT_TYPE && behind(salt, &kinds[1..])
 }
 
 // An internal node over the last `count` of those that wait.
-fn node_fault(count: usize, kinds: &[u16], heights: &[u16], sizes: &[u16]) -> usize
-    requires { (0 < count) × AlikeColumns kinds.now heights.now sizes.now }
-    ensures { (H : List ℕ → List ℕ) (st : List Tag) → StackColumns st kinds.now heights.now sizes.now → result ≡ step_fault (step_of H composed_text st (node count)) }
+fn node_fault(count: usize, waiting: Waiting) -> Result<(), Refusal>
+    requires { 0 < count }
+    ensures { (H : List ℕ → List ℕ) (st : List Tag) → StackColumns st waiting.entry.kinds.now waiting.entry.heights.now waiting.entry.sizes.now → refusal_number result ≡ step_fault (step_of H composed_text st (node count)) }
 {
-    let depth = kinds.len();
+    let depth = waiting.kinds.len();
     if depth < count {
-        return Refusal::CHILDREN_MISSING;
+        return Err(Refusal::ChildrenMissing);
     }
     let base = depth - count;
-    let high = highest(&heights[base..]);
-    if Slip::MAX_HEIGHT <= high {
-        return Refusal::TOO_HIGH;
+    if Slip::MAX_HEIGHT <= highest(&waiting.heights[base..]) {
+        return Err(Refusal::TooHigh);
     }
-    let keeps = salt_rule(&kinds[base..], &sizes[base..]);
-    if keeps {
-        Refusal::ACCEPTED
-    } else {
-        Refusal::SALT_BROKEN
+    if !salt_rule(&waiting.kinds[base..], &waiting.sizes[base..]) {
+        return Err(Refusal::SaltBroken);
     }
+    Ok(())
 }
 
 // "A text value in a slip must already be composed."
-fn leaf_fault(kind: usize, value: &[u8]) -> usize
-    ensures { (H : List ℕ → List ℕ) (st : List Tag) → result ≡ step_fault (step_of H composed_text st (tip kind value.now)) }
+fn leaf_fault(kind: usize, value: &[u8]) -> Result<(), Refusal>
+    ensures { (H : List ℕ → List ℕ) (st : List Tag) → refusal_number result ≡ step_fault (step_of H composed_text st (tip kind value.now)) }
 {
-    if kind < Slip::FIRST_TEXT {
-        return Refusal::ACCEPTED;
+    let text = Slip::FIRST_TEXT <= kind && kind <= Slip::LAST_TEXT;
+    if text && !titles::composed_text(value) {
+        return Err(Refusal::NotComposed);
     }
-    if Slip::LAST_TEXT < kind {
-        return Refusal::ACCEPTED;
-    }
-    let composed = titles::composed_text(value);
-    if composed {
-        Refusal::ACCEPTED
-    } else {
-        Refusal::NOT_COMPOSED
-    }
+    Ok(())
 }
 
-// The refusal of one row's entry, over the columns of those that wait; or that it is taken.
-pub fn fault(
-    kind: usize,
-    count: usize,
-    value: &[u8],
-    kinds: &[u16],
-    heights: &[u16],
-    sizes: &[u16],
-) -> usize
-    requires { AlikeColumns kinds.now heights.now sizes.now }
-    ensures { (H : List ℕ → List ℕ) (st : List Tag) → StackColumns st kinds.now heights.now sizes.now → result ≡ step_fault (step_of H composed_text st (entry_of kind count value.now)) }
+// The refusal that one row's entry meets, over the columns of those that wait.
+pub fn fault(kind: usize, count: usize, value: &[u8], waiting: Waiting) -> Result<(), Refusal>
+    ensures { (H : List ℕ → List ℕ) (st : List Tag) → StackColumns st waiting.entry.kinds.now waiting.entry.heights.now waiting.entry.sizes.now → refusal_number result ≡ step_fault (step_of H composed_text st (entry_of kind count value.now)) }
 {
     if count == 0 {
         leaf_fault(kind, value)
     } else {
-        node_fault(count, kinds, heights, sizes)
+        node_fault(count, waiting)
     }
 }

@@ -1,4 +1,3 @@
 -- Laws that the functions' proofs cite.
 pub mod Settling
 pub mod Opened
-pub mod Headed

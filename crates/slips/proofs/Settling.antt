@@ -2,17 +2,23 @@
 use Prim.Native.Nat.{ℕ, ◌*◌, ◌-◌, ◌≤◌, ◌<◌}
 use mathlib.Core.Bool.{Bool, true, false}
 use mathlib.Core.List.{List}
-use mathlib.Core.Path.{◌≡◌, sym, ap, ◌∙◌}
+use mathlib.Core.Path.{◌≡◌, sym, ap, ◌∙◌, subst}
 use native.Mathlib.Omega.{arith}
-use borrow.Author.Tests.{lt-ltb, le-ltb, eq-eqb, ne_eqb}
+use borrow.Author.Tests.{lt-ltb, le-ltb, ne_eqb}
 use lib.Dec.{eqb}
 use lib.ListN.{length, take, drop, length-drop}
 use lib.Seq.{take_all}
 use Rattle.bits.specs.Bits.{bits_of, num_of}
 use Rattle.bits.specs.ByteLaws.{length_bits_of}
-use Rattle.outcomes.specs.Refusals.{accepted, cut_short, not_one_tree, bad_padding}
+use Rattle.std.specs.Prelude.{Result, Ok, Err, Option, Some, None}
+use Rattle.outcomes.specs.Refusals.{accepted, cut_short, not_one_tree, bad_padding, number_of}
+use Rattle.outcomes.specs.declared.numbers.Refused.{Refused}
+use Rattle.outcomes.specs.RefusalsLaws.{numbered}
+use Rattle.codec.specs.Reading.{Reading}
+use Rattle.codec.specs.Reader.{RestIs}
 use Rattle.engine.specs.declared.judge.Judged.{Judged}
-use Rattle.answers.specs.Answers.{refused, taken}
+use Rattle.engine.specs.Engine.{judged_seen}
+use Rattle.answers.specs.Answers.{refused, taken, refusal_answer}
 use Rattle.slips.specs.Check.{padding_fits}
 use Rattle.slips.specs.Opening.{settled_by}
 
@@ -35,26 +41,34 @@ module _ (s : List ℕ) (at : ℕ) where
       let f : x ≡ num_of (drop at (bits_of s)) = e ∙ ap num_of (take_all (8 * length s - at) (drop at (bits_of s)) all) in
       sym (rw (lt-ltb (length (drop at (bits_of s))) 8 few, ← f))
 
-module _ (n rows : ℕ) (whole : Bool) (rest : List ℕ) (j : Judged) where
-  pub settled_faulty : (j.number ≡ accepted → ⊥) → refused j.number j.place ≡ settled_by n rows whole rest j
+-- one that is refused: its answer, whatever was read
+pub told_faulty : (n rows : ℕ) (whole : Bool) (rest : List ℕ) {j : Result Judged Refused} {r : Refused} → j ≡ Err r
+    → refusal_answer r ≡ settled_by n rows whole rest (judged_seen j)
+unfolding settled_by
+told_faulty n rows whole rest {j} {r} e =
+    sym (rw (e, ne_eqb (number_of r.refusal) accepted (numbered r.refusal)))
+
+-- else the tests, over what was read and the root
+module _ (s : List ℕ) (rows : ℕ) (x : Reading) {j : Result Judged Refused} {o : Option ℕ} {d : Judged} (e : j ≡ Ok d) where
+  pub told_cut : o ≡ None → RestIs s x o → refused cut_short rows ≡ settled_by (length s) rows x.whole x.rest (judged_seen j)
   unfolding settled_by
-  settled_faulty h = sym (rw (ne_eqb j.number accepted h))
+  told_cut k q =
+      let cut : x.whole ≡ false = subst (RestIs s x) k q in
+      sym (rw (e, cut))
 
-  module _ (p : j.number ≡ accepted) where
-    pub settled_cut : whole ≡ false → refused cut_short rows ≡ settled_by n rows whole rest j
+  module _ {at : ℕ} (k : o ≡ Some at) (q : RestIs s x o) where
+    all : (x.whole ≡ true) × (drop at (bits_of s) ≡ x.rest) × (at ≤ 8 * length s)
+    all = subst (RestIs s x) k q
+
+    pub told_many : d.root ≡ None → refused not_one_tree 0 ≡ settled_by (length s) rows x.whole x.rest (judged_seen j)
     unfolding settled_by
-    settled_cut h = sym (rw (eq-eqb j.number accepted p, h))
+    told_many h = sym (rw (e, all.0, h))
 
-    module _ (q : whole ≡ true) where
-      pub settled_many : j.one ≡ false → refused not_one_tree 0 ≡ settled_by n rows whole rest j
+    module _ {label : List ℕ} (h : d.root ≡ Some label) where
+      pub told_padding : padding_fits (drop at (bits_of s)) ≡ false → refused bad_padding 0 ≡ settled_by (length s) rows x.whole x.rest (judged_seen j)
       unfolding settled_by
-      settled_many h = sym (rw (eq-eqb j.number accepted p, q, h))
+      told_padding p = sym (rw (e, all.0, h, ← all.1, p))
 
-      module _ (r : j.one ≡ true) where
-        pub settled_padding : padding_fits rest ≡ false → refused bad_padding 0 ≡ settled_by n rows whole rest j
-        unfolding settled_by
-        settled_padding h = sym (rw (eq-eqb j.number accepted p, q, r, h))
-
-        pub settled_taken : padding_fits rest ≡ true → taken n j.blocks j.label ≡ settled_by n rows whole rest j
-        unfolding settled_by
-        settled_taken h = sym (rw (eq-eqb j.number accepted p, q, r, h))
+      pub told_taken : padding_fits (drop at (bits_of s)) ≡ true → taken (length s) d.blocks label ≡ settled_by (length s) rows x.whole x.rest (judged_seen j)
+      unfolding settled_by
+      told_taken p = sym (rw (e, all.0, h, ← all.1, p))

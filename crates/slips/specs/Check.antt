@@ -1,15 +1,15 @@
 -- What the check answers: "Slip: 1, 2 for the header, 3, 4; then each entry in turn: 2, 5, 6, 7 at its internal node, 8 at its leaf; then 9, 10."
-use Rattle.std.specs.Prelude.{ℕ, ◌*◌, Bool, not, ◌&&◌, List, [], ◌∷◌, ltb, eqb, length, take, drop}
+use Rattle.std.specs.Prelude.{ℕ, ◌*◌, Bool, not, ◌&&◌, List, [], ◌∷◌, ltb, eqb, length, take, drop, Result, Ok, Err}
 use Rattle.outcomes.specs.Chain.{chain}
 use Rattle.bits.specs.Bits.{bits_of, num_of}
 use Rattle.trees.specs.Rules.{max_bytes}
 use Rattle.trees.specs.Rows.{Tag, Verdict, faulty, left, verdict}
 use Rattle.tables.specs.Limits.{edition, edition_bits, count_bits, header_bits}
-use Rattle.outcomes.specs.Refusals.{accepted, too_long, cut_short, other_edition, no_nodes, not_one_tree, bad_padding}
+use Rattle.outcomes.specs.Refusals.{accepted, too_long, cut_short, other_edition, no_nodes, not_one_tree, bad_padding, number_of}
+use Rattle.outcomes.specs.declared.numbers.Refusal.{Refusal}
 use Rattle.codec.specs.Reading.{Reading, read_all}
 use Rattle.engine.specs.Engine.{one_tree, root_label}
 use Rattle.answers.specs.declared.Answer.{Answer}
-use Rattle.slips.specs.declared.header.Header.{Header}
 use Rattle.answers.specs.Answers.{refused, taken}
 
 abbrev pub edition_of : List ℕ → ℕ
@@ -39,6 +39,16 @@ unfoldable pub settled : ℕ → Reading → Verdict → Answer
 settled n r (faulty k i) = refused k i
 settled n r (left st b) = chain (settled_tests r st) (taken n b (root_label st))
 
+-- the refusal of a header, or 0 and the node count
+pub record Header : Type 0 where
+  pub number : ℕ
+  pub count : ℕ
+
+-- what the code answers of a header
+abbrev pub header_seen : Result ℕ Refusal → Header
+header_seen (Ok n) = record { number = accepted; count = n }
+header_seen (Err r) = record { number = number_of r; count = 0 }
+
 -- "1, 2 for the header, 3, 4"
 abbrev pub header_tests : List ℕ → List (Bool × Header)
 header_tests s =
@@ -48,7 +58,7 @@ header_tests s =
     ∷ (eqb (count_of s) 0, record { number = no_nodes; count = 0 })
     ∷ []
 
--- the refusal of a header, or 0 and the node count
+-- what the tests come to
 unfoldable pub header_of : List ℕ → Header
 header_of s = chain (header_tests s) (record { number = accepted; count = count_of s })
 

@@ -1,5 +1,5 @@
 -- The header's tests, one after the other.
-use Rattle.std.specs.Prelude.{ℕ, ◌*◌, ◌^◌, ◌≤◌, ◌<◌, Bool, false, not, List, ◌≡◌, refl, ltb, eqb, take, drop}
+use Rattle.std.specs.Prelude.{Ok, Err, ℕ, ◌*◌, ◌^◌, ◌≤◌, ◌<◌, Bool, false, not, List, ◌≡◌, refl, ltb, eqb, take, drop}
 use Rattle.std.proofs.Math.Path.{sym}
 use Rattle.std.proofs.Common.{ap, ◌∙◌, subst, arith, lt_of_lt_of_le, pow_mono, length-take}
 use borrow.Author.Tests.{lt-ltb, le-ltb, eq-eqb, ne_eqb, ltb-false, eqb-true, not-false}
@@ -10,10 +10,11 @@ use Rattle.bits.specs.FieldLaws.{num_small}
 use Rattle.trees.specs.Rules.{max_bytes, max_nodes}
 use Rattle.tables.specs.Limits.{edition, edition_bits, count_bits, header_bits}
 use Rattle.outcomes.specs.Refusals.{accepted, too_long, cut_short, other_edition, no_nodes}
-use Rattle.slips.specs.declared.header.Header.{Header}
-use Rattle.answers.specs.Answers.{refused}
-use Rattle.slips.specs.Check.{edition_of, count_of, header_tests, header_of, body_of, check_of}
+use Rattle.answers.specs.Answers.{refused, refusal_answer}
+use Rattle.slips.specs.Check.{Header, header_seen, edition_of, count_of, header_tests, header_of, body_of, check_of}
 use Rattle.slips.specs.Opening.{Counted}
+use Rattle.outcomes.specs.RefusalsLaws.{numbered}
+use Rattle.outcomes.specs.declared.numbers.Refusal.{Refusal}
 
 module _ (s : List ℕ) where
   pub header_long : max_bytes < length s → record { number = too_long; count = 0 } ≡ header_of s
@@ -103,3 +104,12 @@ pub check_body : (H : List ℕ → List ℕ) (composed : List ℕ → Bool) (s :
     → body_of H composed s ≡ check_of H composed s
 unfolding check_of
 check_body H composed s h = sym (rw (eq-eqb (header_of s).number accepted h))
+
+-- by the code's answer: a header that is taken, and one that is refused
+pub header_taken : {s : List ℕ} {n : ℕ} → header_seen (Ok n) ≡ header_of s → Counted s n max_bytes max_nodes × ((header_of s).number ≡ accepted)
+header_taken {s} e = (header_read e refl, ap (λ (h : Header). h.number) (sym e))
+
+pub header_refused : (H : List ℕ → List ℕ) (composed : List ℕ → Bool) (s : List ℕ) (r : Refusal) → header_seen (Err r) ≡ header_of s
+    → refusal_answer (record { refusal = r; place = 0 }) ≡ check_of H composed s
+header_refused H composed s r e =
+    ap (λ (h : Header). refused h.number 0) e ∙ check_refused H composed s (λ q. numbered r (ap (λ (h : Header). h.number) e ∙ q))

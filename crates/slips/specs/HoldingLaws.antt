@@ -12,6 +12,7 @@ use Rattle.engine.specs.Engine.{RowsLabelled}
 use Rattle.sha256.specs.Sha256 as Sha256
 use Rattle.titles.specs.Compose.{composed_text}
 use Rattle.answers.specs.declared.Answer.{Answer}
+use Rattle.answers.specs.Answers.{answer_of}
 use Rattle.slips.specs.declared.open.Opened.{Opened}
 use Rattle.slips.specs.Check.{count_of}
 use Rattle.slips.specs.Opening.{OpenGives}
@@ -42,7 +43,7 @@ pub record Rooms (n : ℕ) (types counts lengths labels : List ℕ) : Type 0 whe
   pub labels_room : label_bytes * n ≤ length labels
 
 module _ {s : List ℕ} {r : Opened} {types counts lengths values labels : List ℕ} (o : OpenGives s r types counts lengths values labels)
-    (m : Rooms (count_of s) types counts lengths labels) (e : r.answer.number ≡ accepted) where
+    (m : Rooms (count_of s) types counts lengths labels) (e : (answer_of r.answer).number ≡ accepted) where
   is : ReadsAs Sha256.label composed_text s (slip_tree s)
   is = body_tree Sha256.label composed_text s (ap (λ (a : Answer). a.number) (sym o.answer) ∙ e)
 

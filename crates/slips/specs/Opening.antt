@@ -6,11 +6,10 @@ use Rattle.outcomes.specs.Refusals.{accepted, cut_short}
 use Rattle.tables.specs.Tables.{entries, first_bad, sum}
 use Rattle.sha256.specs.Sha256 as Sha256
 use Rattle.titles.specs.Compose.{composed_text}
-use Rattle.engine.specs.Engine.{RowsLabelled}
-use Rattle.engine.specs.declared.judge.Judged.{Judged}
+use Rattle.engine.specs.Engine.{Judged, RowsLabelled}
 use Rattle.answers.specs.declared.Answer.{Answer}
 use Rattle.slips.specs.declared.open.Opened.{Opened}
-use Rattle.answers.specs.Answers.{refused, taken}
+use Rattle.answers.specs.Answers.{refused, taken, answer_of}
 use Rattle.tables.specs.Limits.{header_bits}
 use Rattle.slips.specs.Check.{count_of, reading_of, end_tests, body_of}
 
@@ -35,7 +34,7 @@ pub record OpenAsks (s : List ℕ) (n : ℕ) (types counts lengths values labels
 
 -- the answer, the table of the rows read, and the label of each internal row
 pub record OpenGives (s : List ℕ) (r : Opened) (types counts lengths values labels : List ℕ) : Type 0 where
-  pub answer : r.answer ≡ body_of Sha256.label composed_text s
+  pub answer : answer_of r.answer ≡ body_of Sha256.label composed_text s
   pub count : r.rows ≡ length (reading_of s).rows
   pub rows : entries (take r.rows types) (take r.rows counts) (take r.rows lengths) (take r.used values) ≡ (reading_of s).rows
   pub formed : first_bad 0 (take r.rows types) (take r.rows counts) (take r.rows lengths) ≡ r.rows

@@ -1,24 +1,17 @@
 -- The labels that the engine leaves are those of the tree's nodes, row by row.
-use Rattle.std.specs.Prelude.{ℕ, ◌-◌, ◌*◌, ◌≤◌, ◌<◌, Bool, ◌≡◌, take, drop}
+use Rattle.std.specs.Prelude.{ℕ, ◌*◌, ◌≤◌, ◌<◌, Bool, ◌≡◌, take, drop}
 use mathlib.Core.List.{List, [], ◌∷◌, ◌++◌, map, append_assoc, append-nil}
-use Rattle.std.proofs.Common.{sym, ◌∙◌, arith, length-append}
+use Rattle.std.proofs.Common.{sym, ◌∙◌, arith}
 use Rattle.std.proofs.Math.Path.{ap}
 use Rattle.std.proofs.Math.ListN.{length, get_or}
-use Rattle.std.proofs.lemmas.List.{get_or_at}
 use Rattle.trees.specs.Nodes.{Node, Run, inner, leaf, nil, cons, count, height, highest, label}
 use Rattle.trees.specs.Rules.{max_height, label_bytes, All, AllIn, NodeRules, LeafRules, WellFormed}
 use Rattle.trees.specs.Rows.{Entry, node, rows, rows_in, Tag, Step, tag_of}
 use Rattle.trees.specs.RowsLaws.{nodes_of}
 use Rattle.trees.specs.RowLabels.{labels_of, labels_in}
 use Rattle.trees.proofs.StackLaws.{node_step}
-use Rattle.engine.specs.Engine.{last_text, top_of, tops, RowsLabelled}
-
--- the node pushed last is on the top
-last_pushed : (st : List Tag) (g : Tag) → last_text (st ++ (g ∷ [])) ≡ g.text
-last_pushed st g =
-    let d : Tag = record { kind = 0; height = 0; text = [] } in
-    let n : length st ≡ length (st ++ (g ∷ [])) - 1 = omega (arith, length-append st (g ∷ [])) in
-    ap (λ (x : Tag). x.text) (get_or_at st g [] d (length (st ++ (g ∷ [])) - 1) n)
+use Rattle.engine.specs.Engine.{top_of, tops, RowsLabelled}
+use Rattle.engine.proofs.Noting.{last_is}
 
 module _ (H : List ℕ → List ℕ) (composed : List ℕ → Bool) where
   mutual
@@ -28,11 +21,11 @@ module _ (H : List ℕ → List ℕ) (composed : List ℕ → Bool) where
         ap (tops H composed st) (append_assoc (rows_in r) (node (count r) ∷ []) es)
         ∙ tops_rows_in r (omega arith) k.1 (node (count r) ∷ es) st
         ∙ ap (λ (s : Step). labels_in H r ++ top_of s (λ z. tops H composed z es)) (node_step H composed st r low k.0.salt)
-        ∙ ap (λ (l : List ℕ). labels_in H r ++ (l ∷ tops H composed (st ++ (tag_of H (inner r) ∷ [])) es)) (last_pushed st (tag_of H (inner r)))
+        ∙ ap (λ (l : List ℕ). labels_in H r ++ (l ∷ tops H composed (st ++ (tag_of H (inner r) ∷ [])) es)) (last_is st (tag_of H (inner r)))
         ∙ sym (append_assoc (labels_in H r) (label H (inner r) ∷ []) (tops H composed (st ++ (tag_of H (inner r) ∷ [])) es))
     tops_rows (leaf t v) low k es st =
         rw k.words
-        (ap (λ (l : List ℕ). l ∷ tops H composed (st ++ (tag_of H (leaf t v) ∷ [])) es) (last_pushed st (tag_of H (leaf t v))))
+        (ap (λ (l : List ℕ). l ∷ tops H composed (st ++ (tag_of H (leaf t v) ∷ [])) es) (last_is st (tag_of H (leaf t v))))
 
     tops_rows_in : (r : Run) → highest r ≤ max_height → AllIn H NodeRules (LeafRules composed) r → (es : List Entry) (st : List Tag)
         → tops H composed st (rows_in r ++ es) ≡ labels_in H r ++ tops H composed (st ++ map (tag_of H) (nodes_of r)) es

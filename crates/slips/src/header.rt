@@ -1,48 +1,27 @@
 // The tests that come before the first entry.
 ghost use Rattle.std.specs.Prelude.{◌≡◌};
-ghost use Rattle.slips.specs.Check.{header_of};
+ghost use Rattle.slips.specs.Check.{header_of, header_seen};
 
 use bits::read;
-use outcomes::Refusal;
+use outcomes::numbers::Refusal;
 use tables::limits::Slip;
 
-// The refusal of a header, or the node count.
-#[derive(Drop)]
-pub struct Header {
-    pub number: usize,
-    pub count: usize,
-}
-
-pub fn header_of(s: &[u8]) -> Header
-    ensures { result ≡ header_of s.now }
+// The node count of a header that is not refused.
+pub fn header_of(s: &[u8]) -> Result<usize, Refusal>
+    ensures { header_seen result ≡ header_of s.now }
 {
     if Slip::MAX_BYTES < s.len() {
-        return Header {
-            number: Refusal::TOO_LONG,
-            count: 0,
-        };
+        return Err(Refusal::TooLong);
     }
     if 8 * s.len() < Slip::EDITION_BITS + Slip::COUNT_BITS {
-        return Header {
-            number: Refusal::CUT_SHORT,
-            count: 0,
-        };
+        return Err(Refusal::CutShort);
     }
     if read::bits(s, 0, Slip::EDITION_BITS) != Slip::EDITION {
-        return Header {
-            number: Refusal::OTHER_EDITION,
-            count: 0,
-        };
+        return Err(Refusal::OtherEdition);
     }
     let count = read::bits(s, Slip::EDITION_BITS, Slip::COUNT_BITS);
     if count == 0 {
-        return Header {
-            number: Refusal::NO_NODES,
-            count: 0,
-        };
+        return Err(Refusal::NoNodes);
     }
-    Header {
-        number: Refusal::ACCEPTED,
-        count,
-    }
+    Ok(count)
 }

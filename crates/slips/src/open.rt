@@ -1,22 +1,27 @@
 // A slip opened: its table read, judged and settled, in areas that the caller lends.
-ghost use Rattle.std.specs.Prelude.{◌≡◌, ◌*◌, ◌≤◌, length, drop};
+ghost use Rattle.std.specs.Prelude.{◌≡◌, ◌*◌, ◌≤◌, length, drop, IfSome};
 ghost use Rattle.bits.specs.Bits.{bits_of};
 ghost use Rattle.trees.specs.Rules.{max_bytes};
+ghost use Rattle.codec.specs.Reading.{Reading};
+ghost use Rattle.codec.specs.Reader.{RestIs};
+ghost use Rattle.engine.specs.Engine.{judged_seen};
+ghost use Rattle.answers.specs.Answers.{answer_of};
 ghost use Rattle.slips.specs.Check.{padding_fits};
 ghost use Rattle.slips.specs.Opening.{OpenAsks, OpenGives, settled_by};
 
-use answers::Answer;
+use answers::Accepted;
 use bits::read;
 use codec::fill;
 use codec::fill::Filled;
 use engine::judge;
 use engine::judge::Judged;
-use outcomes::Refusal;
+use outcomes::numbers::{Refusal, Refused};
+use tables::table::Table;
 
 // The answer, and how much of the areas the table takes.
 #[derive(Drop)]
 pub struct Opened {
-    pub answer: Answer,
+    pub answer: Result<Accepted, Refused>,
     pub rows: usize,
     pub used: usize,
 }
@@ -27,34 +32,33 @@ fn padding_fits(s: &[u8], at: usize) -> bool
     ensures { result ≡ padding_fits (drop at (bits_of s.now)) }
 {
     let left = 8 * s.len() - at;
-    if 8 <= left {
-        return false;
-    }
-    read::bits(s, at, left) == 0
+    left < 8 && read::bits(s, at, left) == 0
 }
 
 // What was read and what the engine tells of it, in the document's order.
-fn settled(s: &[u8], f: Filled, j: Judged) -> Answer
-    requires { (length s.now ≤ max_bytes) × (f.at ≤ 8 * length s.now) }
-    ensures { result ≡ settled_by (length s.now) f.rows f.whole (drop f.at (bits_of s.now)) j }
+fn settled(s: &[u8], f: Filled, judged: Result<Judged, Refused>) -> Result<Accepted, Refused>
+    requires { (length s.now ≤ max_bytes) × IfSome f.rest (λ at. at ≤ 8 * length s.now) }
+    ensures { (x : Reading) → RestIs s.now x f.rest → answer_of result ≡ settled_by (length s.now) f.rows x.whole x.rest (judged_seen judged) }
 {
-    if j.number != Refusal::ACCEPTED {
-        return answers::refused(j.number, j.place);
+    let judged = judged?;
+    let Some(at) = f.rest else {
+        return Err(Refusal::CutShort.at(f.rows));
+    };
+    let Some(label) = judged.root else {
+        return Err(Refusal::NotOneTree.at(0));
+    };
+    if !padding_fits(s, at) {
+        return Err(Refusal::BadPadding.at(0));
     }
-    if !f.whole {
-        return answers::refused(Refusal::CUT_SHORT, f.rows);
-    }
-    if !j.one {
-        return answers::refused(Refusal::NOT_ONE_TREE, 0);
-    }
-    if !padding_fits(s, f.at) {
-        return answers::refused(Refusal::BAD_PADDING, 0);
-    }
-    let label = j.label;
-    answers::taken(s.len(), j.blocks, label)
+    Ok(Accepted {
+        length: s.len(),
+        blocks: judged.blocks,
+        label,
+    })
 }
 
-// Reads the n entries of a slip whose header is taken into the columns and the values area, and judges them.
+// Reads the n entries of a slip whose header is taken into the columns and the values area, and judges them. The areas are
+// lent as slices, not as one value: two slips are opened end to end in the same ones.
 pub fn open_in(
     s: &[u8],
     n: usize,
@@ -68,18 +72,15 @@ pub fn open_in(
     ensures { OpenGives s.now result types.new counts.new lengths.new values.new labels.new }
 {
     let f = fill::fill(s, n, types, counts, lengths, values);
-    let rows = f.rows;
-    let used = f.used;
-    let j = judge::judge(
-        &types[..rows],
-        &counts[..rows],
-        &lengths[..rows],
-        &values[..used],
-        labels,
-    );
+    let t = Table {
+        types: &types[..f.rows],
+        counts: &counts[..f.rows],
+        lengths: &lengths[..f.rows],
+        values: &values[..f.used],
+    };
     Opened {
-        answer: settled(s, f, j),
-        rows,
-        used,
+        answer: settled(s, f, judge::judge(t, labels)),
+        rows: f.rows,
+        used: f.used,
     }
 }

@@ -1,59 +1,42 @@
 // The stack of waiting nodes: in one area their pieces end to end, in three columns their types, heights and label lengths.
 #![tactic(auto)]
 
-ghost use Rattle.std.specs.Prelude.{◌≡◌, List, ◌^◌, ◌<◌};
-ghost use Rattle.trees.specs.Nodes.{blocks_of};
-ghost use Rattle.trees.specs.Rows.{Tag, node};
+ghost use Rattle.std.specs.Prelude.{◌≡◌, [], ◌∷◌, ◌++◌, ◌+◌, ◌*◌, ◌^◌, ◌<◌, ◌≤◌, length};
+ghost use Rattle.trees.specs.Rules.{max_nodes, max_bytes};
+ghost use Rattle.trees.specs.Rows.{node};
 ghost use Rattle.tables.specs.Tables.{entry_of};
 ghost use Rattle.sha256.specs.Sha256 as Sha256;
-ghost use Rattle.stack.specs.Areas.{Laid, PushAsks, PushGives, ParentAsks, ParentGives, GrowAsks, GrowGives};
+ghost use Rattle.faults.specs.Waiting.{StackColumns};
+ghost use Rattle.stack.specs.Areas.{PushAsks, ParentGives, GrowAsks, grown, noted, RootWhole, root_of};
 
+use faults::waiting::Waiting;
 use sha256::padding;
+use std::marker::Model;
 use tables::areas::HEAD;
 use tables::form;
 use tables::limits::Slip;
 
-// How many wait, where the next piece goes, and the blocks compressed so far.
-#[derive(Clone, Copy)]
-pub struct Stack {
-    pub depth: usize,
-    pub top: usize,
-    pub blocks: usize,
+// In `work` the next piece goes to `top`; `blocks` are those compressed so far.
+#[derive(Drop)]
+pub struct Stack<const NODES: usize, const WORK: usize> {
+    kinds: [u16; NODES],
+    heights: [u16; NODES],
+    sizes: [u16; NODES],
+    work: [u8; WORK],
+    depth: usize,
+    top: usize,
+    blocks: usize,
 }
 
-// "A prelabel of n bytes takes floor((n + 72) / 64) blocks."
-fn blocks_of(n: usize) -> usize
-    requires { n < 2 ^ 32 }
-    ensures { result ≡ blocks_of n }
-{
-    padding::blocks(n)
-}
+// Clauses see the nodes that wait, and the blocks.
+impl<const NODES: usize, const WORK: usize> Model for Stack<NODES, WORK> {
+    ghost use Rattle.stack.specs.Areas.{Held, held, Waits};
 
-// One node more: its piece goes behind the pieces, its cells at the columns' ends.
-fn push(
-    s: Stack,
-    kind: usize,
-    height: usize,
-    text: &[u8],
-    kinds: &mut [u16],
-    heights: &mut [u16],
-    sizes: &mut [u16],
-    work: &mut [u8],
-) -> Stack
-    requires { PushAsks s kind height text.now kinds.old heights.old sizes.old work.old }
-    ensures { PushGives s kind height text.now result kinds.old heights.old sizes.old work.old kinds.new heights.new sizes.new work.new }
-{
-    let depth = s.depth;
-    let size = text.len();
-    kinds[depth] = kind as u16;
-    heights[depth] = height as u16;
-    sizes[depth] = size as u16;
-    let top = pieces::put(kind, text, s.top, work);
-    Stack {
-        depth: depth + 1,
-        top,
-        blocks: s.blocks,
-    }
+    ghost Value = { Held };
+
+    ghost view = { λ s. held s.depth s.blocks s.kinds s.heights s.sizes s.work };
+
+    ghost invariant = { λ s. Waits NODES WORK s.depth s.top s.kinds s.heights s.sizes s.work };
 }
 
 // What the last `count` nodes give their parent: its height, the length of its prelabel and its label.
@@ -64,77 +47,107 @@ struct Parent {
     label: [u8; Slip::LABEL_BYTES],
 }
 
-// Their prelabel stands as it is hashed, at the end of the area.
-fn parent_of(s: Stack, count: usize, heights: &[u16], sizes: &[u16], work: &[u8]) -> Parent
-    requires { ParentAsks s count heights.now sizes.now work.now }
-    ensures { ParentGives s count result heights.now sizes.now work.now }
-{
-    let depth = s.depth;
-    let top = s.top;
-    let base = depth - count;
-    let height = faults::highest(&heights[base..depth]) + 1;
-    let long = form::sum(&sizes[base..depth]) + HEAD * count;
-    let start = top - long;
-    let label = labels::label(&work[start..top]);
-    Parent {
-        height,
-        long,
-        label,
+impl<const NODES: usize, const WORK: usize> Stack<NODES, WORK> {
+    pub fn new() -> Self
+        requires { (NODES ≤ max_nodes) × (WORK ≤ 2 * max_bytes) }
+        ensures { result ≡ record { tags = []; blocks = 0 } }
+    {
+        Stack {
+            kinds: [0; NODES],
+            heights: [0; NODES],
+            sizes: [0; NODES],
+            work: [0; WORK],
+            depth: 0,
+            top: 0,
+            blocks: 0,
+        }
     }
-}
 
-// The hash step: the last `count` nodes give way to their parent, whose label is noted at row i.
-fn hash(
-    s: Stack,
-    count: usize,
-    i: usize,
-    kinds: &mut [u16],
-    heights: &mut [u16],
-    sizes: &mut [u16],
-    work: &mut [u8],
-    labels: &mut [u8],
-) -> Stack
-    requires { GrowAsks s (node count) i kinds.old heights.old sizes.old work.old labels.old }
-    ensures { (st : List Tag) → Laid st s.depth s.top kinds.old heights.old sizes.old work.old → GrowGives Sha256.label st (node count) i s result labels.old kinds.new heights.new sizes.new work.new labels.new }
-{
-    let p = parent_of(s, count, heights, sizes, work);
-    let depth = s.depth - count;
-    let top = s.top - p.long;
-    let blocks = s.blocks + blocks_of(p.long);
-    let label = p.label;
-    let at = Slip::LABEL_BYTES * i;
-    lists::copy(&label, &mut labels[at..]);
-    push(
-        Stack { depth, top, blocks },
-        0,
-        p.height,
-        &label,
-        kinds,
-        heights,
-        sizes,
-        work,
-    )
-}
+    pub fn blocks(&self) -> usize
+        ensures { result ≡ self.now.blocks }
+    {
+        self.blocks
+    }
 
-// The stack after a row's entry that meets no refusal.
-pub fn grow(
-    s: Stack,
-    kind: usize,
-    count: usize,
-    value: &[u8],
-    i: usize,
-    kinds: &mut [u16],
-    heights: &mut [u16],
-    sizes: &mut [u16],
-    work: &mut [u8],
-    labels: &mut [u8],
-) -> Stack
-    requires { GrowAsks s (entry_of kind count value.now) i kinds.old heights.old sizes.old work.old labels.old }
-    ensures { (st : List Tag) → Laid st s.depth s.top kinds.old heights.old sizes.old work.old → GrowGives Sha256.label st (entry_of kind count value.now) i s result labels.old kinds.new heights.new sizes.new work.new labels.new }
-{
-    if count == 0 {
-        push(s, kind, 1, value, kinds, heights, sizes, work)
-    } else {
-        hash(s, count, i, kinds, heights, sizes, work, labels)
+    pub fn waiting(&self) -> Waiting<'_>
+        ensures { StackColumns self.now.tags result.kinds.now result.heights.now result.sizes.now }
+    {
+        Waiting {
+            kinds: &self.kinds[..self.depth],
+            heights: &self.heights[..self.depth],
+            sizes: &self.sizes[..self.depth],
+        }
+    }
+
+    // The label of a root that waits alone: it stands behind the head of the only piece.
+    pub fn root(&self) -> Option<[u8; Slip::LABEL_BYTES]>
+        requires { RootWhole self.now.tags }
+        ensures { result ≡ root_of self.now.tags }
+    {
+        if self.depth != 1 || self.kinds[0] != 0 {
+            return None;
+        }
+        let piece = &self.work[..self.top];
+        let mut label = [0; Slip::LABEL_BYTES];
+        label.copy_from_slice(&piece[HEAD..]);
+        Some(label)
+    }
+
+    // One node more: its piece goes behind the pieces, its cells at the columns' ends.
+    fn push(&mut self, kind: usize, height: usize, text: &[u8])
+        requires { PushAsks NODES WORK self.old kind height text.now }
+        ensures { self.new ≡ record { tags = self.old.tags ++ (record { kind = kind; height = height; text = text.now } ∷ []); blocks = self.old.blocks } }
+    {
+        let depth = self.depth;
+        self.kinds[depth] = kind as u16;
+        self.heights[depth] = height as u16;
+        self.sizes[depth] = text.len() as u16;
+        self.top = pieces::put(kind, text, self.top, &mut self.work);
+        self.depth = depth + 1;
+    }
+
+    // Their prelabel stands as it is hashed, at the end of the area.
+    fn parent_of(&self, count: usize) -> Parent
+        requires { count ≤ length self.now.tags }
+        ensures { ParentGives self.now.tags count result }
+    {
+        let waiting = self.waiting();
+        let base = self.depth - count;
+        let height = faults::highest(&waiting.heights[base..]) + 1;
+        let long = form::sum(&waiting.sizes[base..]) + HEAD * count;
+        let pieces = &self.work[..self.top];
+        Parent {
+            height,
+            long,
+            label: labels::label(&pieces[self.top - long..]),
+        }
+    }
+
+    // The hash step: the last `count` nodes give way to their parent, whose label is noted at row i.
+    fn hash(&mut self, count: usize, i: usize, labels: &mut [u8])
+        requires { GrowAsks NODES WORK self.old (node count) i labels.old }
+        ensures stack { self.new ≡ grown Sha256.label self.old (node count) }
+        ensures labels { labels.new ≡ noted Sha256.label self.old.tags (node count) i labels.old }
+    {
+        let parent = self.parent_of(count);
+        let at = Slip::LABEL_BYTES * i;
+        labels[at..at + Slip::LABEL_BYTES].copy_from_slice(&parent.label);
+        self.depth -= count;
+        self.top -= parent.long;
+        self.blocks += padding::blocks(parent.long);
+        self.push(0, parent.height, &parent.label);
+    }
+
+    // The stack after a row's entry that meets no refusal.
+    pub fn grow(&mut self, kind: usize, count: usize, value: &[u8], i: usize, labels: &mut [u8])
+        requires { GrowAsks NODES WORK self.old (entry_of kind count value.now) i labels.old }
+        ensures stack { self.new ≡ grown Sha256.label self.old (entry_of kind count value.now) }
+        ensures labels { labels.new ≡ noted Sha256.label self.old.tags (entry_of kind count value.now) i labels.old }
+    {
+        if count == 0 {
+            self.push(kind, 1, value);
+        } else {
+            self.hash(count, i, labels);
+        }
     }
 }

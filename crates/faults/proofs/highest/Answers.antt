@@ -1,18 +1,8 @@
-use native.Mathlib.Omega.{arith}
-use Rattle.faults.proofs.Columns.{greatest_next, greatest_none}
+use Rattle.std.proofs.Common.{◌≡◌, max, fold, rules, arith}
+use Rattle.faults.proofs.Columns.{folded}
 use Rattle.faults.proofs.highest.Goals as goal
-use Rattle.faults.proofs.highest.Goals.{then-most-height, else-most-height}
-
-pub loop-i-preserved : goal.loop-i-preserved
-loop-i-preserved c =
-    let heights = c.args.heights.now in
-    let l = c.loop-i in
-    elim c.if-most-height.branch [
-      | then-most-height w ↦ omega (arith, greatest_next heights l.i c.loop-i-test.true)
-      | else-most-height w ↦ omega (arith, greatest_next heights l.i c.loop-i-test.true)
-    ]
 
 pub returns : goal.returns
 returns c =
-    let heights = c.args.heights.now in
-    omega (arith, greatest_none heights c.loop-i.i c.loop-i-test.false)
+    let e : c.fold.result ≡ fold (λ a x. max a x) 0 c.args.heights.now = search rules in
+    omega (arith, folded c.args.heights.now 0)

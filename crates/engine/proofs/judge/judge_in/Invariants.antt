@@ -1,10 +1,6 @@
-use Prim.Native.Nat.{◌-◌}
-use lib.ListN.{length}
-use Rattle.engine.proofs.Going.{Turn}
+use Rattle.tables.specs.Seen.{seen}
+use Rattle.engine.proofs.Going.{Going}
 use Rattle.engine.proofs.judge.judge_in.Given as goal
 
 abbrev pub invariant-loop-i : goal.invariant-loop-i
-invariant-loop-i l = Turn l.types l.counts l.lengths l.values l.initial.kinds l.initial.heights l.initial.sizes l.initial.work l.initial.labels l.kinds l.heights l.sizes l.work l.labels l.s l.at l.i
-
-abbrev pub decreases-loop-i : goal.decreases-loop-i
-decreases-loop-i l = length l.types - l.i
+invariant-loop-i g l = Going (seen l.t) l.i l.at l.stack l.labels

@@ -1,5 +1,4 @@
-use Prim.Native.Nat.{ℕ}
-use mathlib.Core.Path.{sym, ap, ◌∙◌}
+use Rattle.std.proofs.Common.{sym, ap, ◌∙◌, ℕ}
 use Rattle.outcomes.specs.Refusals.{accepted}
 use Rattle.slips.specs.HeaderLaws.{header_long, header_short, header_edition, header_none, header_counted}
 use Rattle.slips.proofs.header.header_of.Goals as goal

@@ -1,19 +1,26 @@
-use borrow.Author.Tests.{not-true, not-false}
-use mathlib.Core.Path.{sym, ◌∙◌}
-use Rattle.slips.proofs.Settling.{settled_faulty, settled_cut, settled_many, settled_padding, settled_taken}
+use Rattle.std.proofs.Common.{◌≡◌, sym, ap, ◌∙◌, rules, Err}
+use Rattle.answers.specs.Answers.{answer_of, refusal_answer}
+use Rattle.slips.proofs.Settling.{told_faulty, told_cut, told_many, told_padding, told_taken}
 use Rattle.slips.proofs.open.settled.Goals as goal
 
-pub returns-then-j-ne-ACCEPTED : goal.returns-then-j-ne-ACCEPTED
-returns-then-j-ne-ACCEPTED c = c.refused.ensures ∙ settled_faulty _ _ _ _ _ c.if-j-ne-ACCEPTED.true
+pub returns-in_err-judged : goal.returns-in_err-judged
+returns-in_err-judged c = λ x q.
+    let told : c.from_residual.result ≡ Err c.in_err-judged.field-0.0 = search rules in
+    ap answer_of told ∙ told_faulty _ _ _ _ c.in_err-judged.was
 
-pub returns-then-not-f : goal.returns-then-not-f
-returns-then-not-f c = c.refused-then-not-f.ensures ∙ settled_cut _ _ _ _ _ c.if-j-ne-ACCEPTED.false (not-true _ c.if-not-f.true)
+pub returns-in_default : goal.returns-in_default
+returns-in_default c = λ x q.
+    ap refusal_answer c.at.ensures ∙ told_cut _ _ x c.in_ok-judged.was c.in_default.is q
 
-pub returns-then-not-j : goal.returns-then-not-j
-returns-then-not-j c = c.refused-then-not-j.ensures ∙ settled_many _ _ _ _ _ c.if-j-ne-ACCEPTED.false (not-false _ c.if-not-f.false) (not-true _ c.if-not-j.true)
+pub returns-in_default-root : goal.returns-in_default-root
+returns-in_default-root c = λ x q.
+    ap refusal_answer c.at-in_default-root.ensures ∙ told_many _ _ x c.in_ok-judged.was c.in-Some.is q c.in_default-root.is
 
 pub returns-then-not-padding_fits : goal.returns-then-not-padding_fits
-returns-then-not-padding_fits c = c.refused-then-not-padding_fits.ensures ∙ settled_padding _ _ _ _ _ c.if-j-ne-ACCEPTED.false (not-false _ c.if-not-f.false) (not-false _ c.if-not-j.false) (sym c.padding_fits.ensures ∙ c.if-not-padding_fits.true)
+returns-then-not-padding_fits c = λ x q.
+    ap refusal_answer c.at-then-not-padding_fits.ensures
+    ∙ told_padding _ _ x c.in_ok-judged.was c.in-Some.is q c.in-Some-root.is (sym c.padding_fits.ensures ∙ c.if-not-padding_fits.true)
 
 pub returns : goal.returns
-returns c = c.taken.ensures ∙ settled_taken _ _ _ _ _ c.if-j-ne-ACCEPTED.false (not-false _ c.if-not-f.false) (not-false _ c.if-not-j.false) (sym c.padding_fits.ensures ∙ c.if-not-padding_fits.false)
+returns c = λ x q.
+    told_taken _ _ x c.in_ok-judged.was c.in-Some.is q c.in-Some-root.is (sym c.padding_fits.ensures ∙ c.if-not-padding_fits.false)
