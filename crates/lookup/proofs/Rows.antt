@@ -9,11 +9,10 @@ use lib.ListN.{length, drop, get_or, drop_of_length-le}
 use lib.Seq.{drop-cons}
 use denote.Ref.{Bor}
 use borrow.Author.Tests.{eq-eqb, ne_eqb, le-leb}
-use Rattle.tables.specs.Tables.{Table, table, table_fits}
-use Rattle.lookup.specs.Lookup.{Spot, At, Nothing, first_of, held_in, held_by, or_else, lookup, area_of, PartOf, Handed}
+use Rattle.tables.specs.Tables.{Table, table_fits}
+use Rattle.lookup.specs.Lookup.{Spot, At, Nothing, first_of, held_in, held_by, or_else, lookup, Finding, area_of, PartOf, Handed}
 use Rattle.lookup.specs.LookupLaws.{held_within, refused_none}
 use Rattle.lookup.specs.Agreement.{found_within}
-use Rattle.lookup.specs.declared.held.Finding.{Finding}
 
 -- the rows from i on are row i and those behind it
 module _ (kind at : ℕ) (ts ls : List ℕ) (i : ℕ) (p : i < length ts) (q : i < length ls) where
@@ -40,13 +39,16 @@ unfolding held_in
 held_searched kind t k f = rw (le-leb 1 kind (omega (arith, k)), f)
 
 -- and any other table has nothing: what the test of the form says of an answer
-module _ (kind holder : ℕ) (types counts lengths values : List ℕ) {fits : Bool} (same : fits ≡ table_fits (table types counts lengths values)) where
-  pub searched_held : {f : Finding} → fits ≡ true → (kind ≡ 0 → ⊥) → f ≡ held_by holder (first_of kind 0 types lengths)
-      → f ≡ held_by holder (held_in kind (table types counts lengths values))
-  searched_held e k p = p ∙ ap (held_by holder) (sym (held_searched kind (table types counts lengths values) k (sym same ∙ e)))
+module _ (kind : ℕ) (t : Table) {fits : Bool} (same : fits ≡ table_fits t) where
+  pub searched_held : {x : Spot} → fits ≡ true → (kind ≡ 0 → ⊥) → x ≡ first_of kind 0 t.types t.lengths → x ≡ held_in kind t
+  searched_held e k p = p ∙ sym (held_searched kind t k (sym same ∙ e))
 
-  pub unfit_held : fits ≡ false → record { holder = 0; start = 0; size = 0 } ≡ held_by holder (held_in kind (table types counts lengths values))
-  unfit_held e = ap (held_by holder) (sym (refused_none kind (table types counts lengths values) (sym same ∙ e)))
+  pub unfit_held : fits ≡ false → Nothing ≡ held_in kind t
+  unfit_held e = sym (refused_none kind t (sym same ∙ e))
+
+pub zero_held : (kind : ℕ) (t : Table) → kind ≡ 0 → Nothing ≡ held_in kind t
+unfolding held_in
+zero_held kind t e = rw e refl
 
 -- what the first record holds, or else the second
 module _ {f : Finding} (kind : ℕ) (t u : Table) (e : f ≡ held_by 1 (held_in kind t)) where

@@ -1,8 +1,7 @@
 -- The lookup on each side of its rules, computed.
 use Rattle.std.specs.Prelude.{ℕ, ◌≡◌, refl, [], ◌∷◌, ◌++◌, replicate, take, drop}
 use Rattle.tables.specs.Tables.{Table, table, columns_fit, row_fits, first_bad, sum, table_fits}
-use Rattle.lookup.specs.Lookup.{first_of, held_in, lookup}
-use Rattle.lookup.specs.declared.held.Finding.{Finding}
+use Rattle.lookup.specs.Lookup.{Finding, first_of, held_in, lookup}
 
 -- a salt of 32 bytes 7, raw values of the types 600 (8 9, then 10) and 601 (empty), under one root
 abbrev full : Table

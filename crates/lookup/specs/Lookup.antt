@@ -1,14 +1,32 @@
 -- "The lookup takes two unpacked records and a type of 1 or above, and hands back a part of the first record's value area, or else of
 -- the second's"; "A separate question says which record has it: 0, 1 or 2."
-use Rattle.std.specs.Prelude.{ℕ, ◌+◌, ◌≡◌, cond, ◌&&◌, List, [], ◌∷◌, leb, eqb, take, drop}
+use Rattle.std.specs.Prelude.{ℕ, ◌+◌, ◌≡◌, cond, Option, Some, None, ◌&&◌, List, [], ◌∷◌, leb, eqb, take, drop}
 use Rattle.std.specs.Borrow.{Bor}
 use Rattle.tables.specs.Tables.{Table, table_fits}
-use Rattle.lookup.specs.declared.held.Finding.{Finding}
+use Rattle.lookup.specs.declared.held.Span.{Span}
+use Rattle.lookup.specs.declared.Found.{Found}
+use Rattle.lookup.specs.declared.Found.TheVariants.{First, Second}
 
 -- a part of a table's values area, by its start and size; or no part
 pub data Spot : Type 0 where
   At : ℕ → ℕ → Spot
   Nothing : Spot
+
+-- a part of a record's values area: which record, where the part starts and how long it is. Of no record, 0, where nothing is found.
+pub record Finding : Type 0 where
+  pub holder : ℕ
+  pub start : ℕ
+  pub size : ℕ
+
+-- the code's part of an area, and its finding
+abbrev pub spot_of : Option Span → Spot
+spot_of None = Nothing
+spot_of (Some p) = At p.start p.size
+
+abbrev pub finding_of : Option Found → Finding
+finding_of None = record { holder = 0; start = 0; size = 0 }
+finding_of (Some (First p)) = record { holder = 1; start = p.start; size = p.size }
+finding_of (Some (Second p)) = record { holder = 2; start = p.start; size = p.size }
 
 -- "the value of the first row of that type": its part of an area whose first row's value starts at `at`, the others' end to end behind it
 unfoldable pub first_of : ℕ → ℕ → List ℕ → List ℕ → Spot

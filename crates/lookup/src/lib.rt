@@ -4,79 +4,55 @@
 pub mod held;
 
 ghost use Rattle.std.specs.Prelude.{◌≡◌, ◌+◌, ◌≤◌, length};
-ghost use Rattle.tables.specs.Tables.{table};
-ghost use Rattle.lookup.specs.Lookup.{lookup, PartOf, Handed};
+ghost use Rattle.tables.specs.Seen.{seen};
+ghost use Rattle.lookup.specs.Lookup.{finding_of, lookup, PartOf, Handed};
 
-use held::Finding;
+use held::Span;
+use tables::table::Table;
 
 // Which record has it, and the part of that record's area.
-pub fn finding(
-    kind: u16,
-    types1: &[u16],
-    counts1: &[u16],
-    lengths1: &[u16],
-    values1: &[u8],
-    types2: &[u16],
-    counts2: &[u16],
-    lengths2: &[u16],
-    values2: &[u8],
-) -> Finding
-    ensures { result ≡ lookup kind (table types1.now counts1.now lengths1.now values1.now) (table types2.now counts2.now lengths2.now values2.now) }
-{
-    let first = held::held_in(kind, 1, types1, counts1, lengths1, values1);
-    if first.holder == 1 {
-        return first;
-    }
-    held::held_in(kind, 2, types2, counts2, lengths2, values2)
+#[derive(Clone, Copy)]
+pub enum Found {
+    First(Span),
+    Second(Span),
 }
 
-fn part<'a>(area: &'a [u8], start: usize, size: usize) -> &'a [u8]
-    requires { start + size ≤ length area.now }
-    ensures { PartOf area.entry start size result }
+pub fn finding(kind: u16, first: Table, second: Table) -> Option<Found>
+    ensures { finding_of result ≡ lookup kind (seen first.entry) (seen second.entry) }
 {
-    let end = start + size;
-    &area[start..end]
+    if let Some(span) = held::held_in(kind, first) {
+        return Some(Found::First(span));
+    }
+    let span = held::held_in(kind, second)?;
+    Some(Found::Second(span))
 }
 
-// The value of the first row of that type, as a part of the area that it lies in.
-pub fn find<'a>(
-    kind: u16,
-    types1: &[u16],
-    counts1: &[u16],
-    lengths1: &[u16],
-    values1: &'a [u8],
-    types2: &[u16],
-    counts2: &[u16],
-    lengths2: &[u16],
-    values2: &'a [u8],
-) -> &'a [u8]
-    ensures { Handed (lookup kind (table types1.now counts1.now lengths1.now values1.now) (table types2.now counts2.now lengths2.now values2.now)) values1.entry values2.entry result }
+fn part<'a>(area: &'a [u8], span: Span) -> &'a [u8]
+    requires { span.start + span.size ≤ length area.now }
+    ensures { PartOf area.entry span.start span.size result }
 {
-    let f = finding(
-        kind, types1, counts1, lengths1, values1, types2, counts2, lengths2, values2,
-    );
-    if f.holder == 2 {
-        return part(values2, f.start, f.size);
+    &area[span.start..span.start + span.size]
+}
+
+// The value of the first row of that type, as a part of the area that it lies in; the empty part at the start of the first
+// area where neither has it.
+pub fn find<'a>(kind: u16, first: Table<'a>, second: Table<'a>) -> &'a [u8]
+    ensures { Handed (lookup kind (seen first.entry) (seen second.entry)) first.entry.values second.entry.values result }
+{
+    match finding(kind, first, second) {
+        Some(Found::First(span)) => part(first.values, span),
+        Some(Found::Second(span)) => part(second.values, span),
+        None => part(first.values, Span { start: 0, size: 0 }),
     }
-    part(values1, f.start, f.size)
 }
 
 // Which record has it: 1, 2, or 0 where neither does.
-pub fn holder(
-    kind: u16,
-    types1: &[u16],
-    counts1: &[u16],
-    lengths1: &[u16],
-    values1: &[u8],
-    types2: &[u16],
-    counts2: &[u16],
-    lengths2: &[u16],
-    values2: &[u8],
-) -> usize
-    ensures { result ≡ (lookup kind (table types1.now counts1.now lengths1.now values1.now) (table types2.now counts2.now lengths2.now values2.now)).holder }
+pub fn holder(kind: u16, first: Table, second: Table) -> usize
+    ensures { result ≡ (lookup kind (seen first.entry) (seen second.entry)).holder }
 {
-    finding(
-        kind, types1, counts1, lengths1, values1, types2, counts2, lengths2, values2,
-    )
-    .holder
+    match finding(kind, first, second) {
+        Some(Found::First(_)) => 1,
+        Some(Found::Second(_)) => 2,
+        None => 0,
+    }
 }

@@ -10,6 +10,8 @@ use Rattle.trees.specs.Rules.{label_bytes}
 use Rattle.trees.specs.Rows.{Entry, tip}
 use Rattle.tables.specs.Tables.{entry_of, entries, sum}
 use Rattle.tables.specs.TablesLaws.{sum_append, length_entries}
+use Rattle.prune_rows.specs.declared.marks.Mark.{Mark}
+use Rattle.prune_rows.specs.Marks.{gone}
 use Rattle.prune_rows.specs.Picked.{picked, row_by, label_rows}
 use Rattle.prune_rows.specs.PickedLaws.{picked_step, picked_none, length_label_rows, label_rows_at}
 use Rattle.prune_rows.specs.TableLaws.{entries_at, row_fits_lem}
@@ -42,7 +44,7 @@ value_part values at l k e =
     ap (λ (j : ℕ). take j (drop at values)) f
 
 -- the rows before row i are picked: what they gave, and what the others will give
-pub record Going (lengths : List ℕ) (es : List Entry) (xs : List (List ℕ)) (marks : List ℕ) (i at rows used : ℕ) (ts cs ls vs : List ℕ) : Type 0 where
+pub record Going (lengths : List ℕ) (es : List Entry) (xs : List (List ℕ)) (marks : List Mark) (i at rows used : ℕ) (ts cs ls vs : List ℕ) : Type 0 where
   pub at_is : at ≡ sum (take i lengths)
   pub rows_low : rows ≤ i
   pub used_low : used ≤ at + label_bytes * i
@@ -52,7 +54,7 @@ pub record Going (lengths : List ℕ) (es : List Entry) (xs : List (List ℕ)) (
       picked row_by marks es xs
       ≡ so_far ++ picked row_by (drop i marks) (drop i es) (drop i xs)
 
-module _ {types counts lengths values labels marks : List ℕ} (ready : PickAsks types counts lengths values labels marks) where
+module _ {types counts lengths values labels : List ℕ} {marks : List Mark} (ready : PickAsks types counts lengths values labels marks) where
   abbrev es : List Entry
   es = entries types counts lengths values
 
@@ -119,11 +121,11 @@ module _ {types counts lengths values labels marks : List ℕ} (ready : PickAsks
       pub going_more :
           {next rows' used' : ℕ} {ts' cs' ls' vs' : List ℕ}
           → next ≡ at + get_or lengths i 0
-          → TurnGives (get_or marks i 0) (get_or lengths i 0) (entry_of (get_or types i 0) (get_or counts i 0) v) label rows used ts cs ls vs
+          → TurnGives (get_or marks i gone) (get_or lengths i 0) (entry_of (get_or types i 0) (get_or counts i 0) v) label rows used ts cs ls vs
           rows' used' ts' cs' ls' vs'
           → Going lengths es xs marks (i + 1) next rows' used' ts' cs' ls' vs'
       going_more n turn =
-          let m : ℕ = get_or marks i 0 in
+          let m : Mark = get_or marks i gone in
           let e : Entry = entry_of (get_or types i 0) (get_or counts i 0) v in
           let l_rows : i < length xs = omega (arith, length_label_rows (length types) labels) in
           record {

@@ -12,7 +12,7 @@ use Rattle.tables.specs.Tables.{entry_of, entries, row_fits, first_bad, sum}
 use Rattle.lists.specs.PartsLaws.{one_more}
 use Rattle.tables.specs.TablesLaws.{sum_append}
 use Rattle.prune_rows.specs.TableLaws.{entries_append, formed_more}
-use Rattle.prune_rows.specs.Marks.{gone, kept}
+use Rattle.prune_rows.specs.Marks.{gone, kept, cut_off}
 use Rattle.prune_rows.specs.Clauses.{Written}
 use Rattle.prune_rows.specs.Steps.{PutAsks, Adds, PutGives, TurnGives}
 
@@ -66,51 +66,40 @@ module _ (t c l rows used : ℕ) (part ts cs ls vs last : List ℕ) (p : PutAsks
             ∙ ap₂ (λ (x : List Entry) (y : List ℕ). x ++ (entry_of t c y ∷ [])) w.are (take_all l part (omega (arith, p.long)));
       }
 
-past_one : (m : ℕ) → (m ≡ 0 → ⊥) → (m ≡ 1 → ⊥) → 1 < m
-past_one zero p q = absurd (p refl)
-past_one (suc zero) p q = absurd (q refl)
-past_one (suc (suc m)) p q = omega arith
-
 -- one row of the first table
-module _ (mark l rows used : ℕ) (label ts cs ls vs : List ℕ) where
+module _ (l rows used : ℕ) (label ts cs ls vs : List ℕ) where
   -- that is gone
-  pub turn_gone : (e : Entry) → mark ≡ gone → TurnGives mark l e label rows used ts cs ls vs rows used ts cs ls vs
-  turn_gone e p =
+  pub turn_gone : (e : Entry) → TurnGives gone l e label rows used ts cs ls vs rows used ts cs ls vs
+  turn_gone e =
       record {
         row = omega arith;
         bytes = omega arith;
-        adds = λ es w. rw (p, append-nil) w;
+        adds = λ es w. rw append-nil w;
       }
 
   module _ (rows' used' : ℕ) (ts' cs' ls' vs' : List ℕ) where
     -- that is kept
-    pub turn_kept : (e : Entry) → mark ≡ kept
+    pub turn_kept : (e : Entry)
         → PutGives e l rows used ts cs ls vs rows' used' ts' cs' ls' vs'
-        → TurnGives mark l e label rows used ts cs ls vs rows' used' ts' cs' ls' vs'
-    turn_kept e p a =
+        → TurnGives kept l e label rows used ts cs ls vs rows' used' ts' cs' ls' vs'
+    turn_kept e a =
         record {
           row = omega (arith, a.row);
           bytes = omega (arith, a.bytes);
-          adds = rw p a.adds;
+          adds = a.adds;
         }
 
     -- that is cut off
-    pub turn_cut : (t c : ℕ) (v : List ℕ) → (mark ≡ gone → ⊥) → (mark ≡ kept → ⊥) → (1 < mark → 0 < c)
+    pub turn_cut : (t c : ℕ) (v : List ℕ) → 0 < c
         → PutGives (entry_of 0 0 label) label_bytes rows used ts cs ls vs rows' used' ts' cs' ls' vs'
-        → TurnGives mark l (entry_of t c v) label rows used ts cs ls vs rows' used' ts' cs' ls' vs'
-    turn_cut t c v p q inner a = go mark (past_one mark p q) c (inner (past_one mark p q))
-      where
-        go : (m : ℕ) → 1 < m → (c : ℕ) → 0 < c
-            → TurnGives m l (entry_of t c v) label rows used ts cs ls vs rows' used' ts' cs' ls' vs'
-        go (suc (suc m)) h (suc c) i =
-            record {
-              row = omega (arith, a.row);
-              bytes = omega (arith, a.bytes);
-              adds = a.adds;
-            }
-        go (suc (suc m)) h zero i = absurd (omega arith)
-        go (suc zero) h c i = absurd (omega arith)
-        go zero h c i = absurd (omega arith)
+        → TurnGives cut_off l (entry_of t c v) label rows used ts cs ls vs rows' used' ts' cs' ls' vs'
+    turn_cut t zero v h a = absurd (omega arith)
+    turn_cut t (suc c) v h a =
+        record {
+          row = omega (arith, a.row);
+          bytes = omega (arith, a.bytes);
+          adds = a.adds;
+        }
 
 -- "a dangling row has type 0, count 0 and length 32"
 pub dangling_fits : row_fits 0 0 label_bytes ≡ true

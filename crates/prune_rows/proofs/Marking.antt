@@ -8,6 +8,7 @@ use native.Mathlib.Nat.{sub-zero}
 use native.Mathlib.Omega.{arith}
 use lib.ListN.{length, take, drop, get_or, set}
 use lib.Seq.{drop-cons, drop-length, drop_at, set_split, length-take-le}
+use Rattle.prune_rows.specs.declared.marks.Mark.{Mark}
 use Rattle.prune_rows.specs.Marks.{state, gone, kept, cut_off, Walk, mark_by, owed_by, step_back, at_end, walk}
 
 -- a row behind which subtrees are owed goes
@@ -34,19 +35,19 @@ owed_low b c (suc o) k p q = omega arith
 
 module _ (f : ℕ → Bool) (cs : List ℕ) where
   -- the marks from row i on stand in the area, and so many subtrees are owed before it
-  abbrev pub Walked : List ℕ → ℕ → ℕ → Type 0
+  abbrev pub Walked : List Mark → ℕ → ℕ → Type 0
   Walked ms i o = walk f (drop i cs) i at_end ≡ state (take (length cs - i) (drop i ms)) o
 
-  pub walked_none : (ms : List ℕ) → Walked ms (length cs) 0
+  pub walked_none : (ms : List Mark) → Walked ms (length cs) 0
   walked_none ms =
       let none : length cs - length cs ≡ 0 = omega arith in
       rw (drop-length cs, none)
 
-  front : (ms : List ℕ) (j m : ℕ) → j < length ms → drop j (set ms j m) ≡ m ∷ drop (suc j) ms
+  front : (ms : List Mark) (j : ℕ) (m : Mark) → j < length ms → drop j (set ms j m) ≡ m ∷ drop (suc j) ms
   front ms j m h = ap (drop j) (set_split ms j m h) ∙ drop_at (take j ms) (m ∷ drop (suc j) ms) j (length-take-le j ms (omega arith))
 
   pub walked_more :
-      (ms : List ℕ) (j m o o' : ℕ)
+      (ms : List Mark) (j : ℕ) (m : Mark) (o o' : ℕ)
       → j < length cs
       → j < length ms
       → Walked ms (j + 1) o
@@ -58,11 +59,11 @@ module _ (f : ℕ → Bool) (cs : List ℕ) where
       ap (λ (x : List ℕ). walk f x j at_end) (drop-cons cs j 0 h)
       ∙ ap (λ (k : ℕ). step_back (f j) (get_or cs j 0) (walk f (drop k cs) (j + 1) at_end)) (sym (add-one j))
       ∙ ap (step_back (f j) (get_or cs j 0)) w
-      ∙ ap₂ (λ (x y : ℕ). state (x ∷ take (length cs - (j + 1)) (drop (j + 1) ms)) y) (sym p) (sym q)
+      ∙ ap₂ (λ (x : Mark) (y : ℕ). state (x ∷ take (length cs - (j + 1)) (drop (j + 1) ms)) y) (sym p) (sym q)
       ∙ ap (λ (k : ℕ). state (m ∷ take (length cs - (j + 1)) (drop k ms)) o') (add-one j)
-      ∙ ap₂ (λ (k : ℕ) (x : List ℕ). state (take k x) o') (sym more) (sym (front ms j m l))
+      ∙ ap₂ (λ (k : ℕ) (x : List Mark). state (take k x) o') (sym more) (sym (front ms j m l))
 
   -- before the first row all marks stand in the area
-  pub walked_all : (ms : List ℕ) (i o : ℕ) → i ≤ 0 → Walked ms i o → take (length cs) ms ≡ (walk f cs 0 at_end).marks
+  pub walked_all : (ms : List Mark) (i o : ℕ) → i ≤ 0 → Walked ms i o → take (length cs) ms ≡ (walk f cs 0 at_end).marks
   walked_all ms zero o h w = ap (λ (k : ℕ). take k ms) (sym (sub-zero (length cs))) ∙ ap (λ (x : Walk). x.marks) (sym w)
   walked_all ms (suc i) o h w = absurd (omega arith)

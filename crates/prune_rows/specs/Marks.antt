@@ -1,29 +1,31 @@
 -- What becomes of each row of a table that is pruned: one mark a row, found from the last row to the first.
 use Rattle.std.specs.Prelude.{ℕ, zero, suc, ◌+◌, Bool, cond, List, [], ◌∷◌, ◌++◌, replicate}
+use Rattle.prune_rows.specs.declared.marks.Mark.{Mark}
+use Rattle.prune_rows.specs.declared.marks.Mark.TheVariants.{Gone, Kept, CutOff}
 use Rattle.trees.specs.Nodes.{Node, Run, inner, leaf, nil, cons, size, sizes}
 
 -- "its descendants go"
-abbrev pub gone : ℕ
-gone = 0
+abbrev pub gone : Mark
+gone = Gone
 
 -- a row that stays as it is
-abbrev pub kept : ℕ
-kept = 1
+abbrev pub kept : Mark
+kept = Kept
 
 -- "Each becomes dangling with its label"
-abbrev pub cut_off : ℕ
-cut_off = 2
+abbrev pub cut_off : Mark
+cut_off = CutOff
 
 -- the marks of the rows from one on, and how many subtrees before it are still owed to a row that is cut off
 pub record Walk : Type 0 where
-  pub marks : List ℕ
+  pub marks : List Mark
   pub owed : ℕ
 
-abbrev pub state : List ℕ → ℕ → Walk
+abbrev pub state : List Mark → ℕ → Walk
 state ms o = record { marks = ms; owed = o }
 
 -- the mark of a row, named or not, before which so many subtrees are owed
-abbrev pub mark_by : Bool → ℕ → ℕ
+abbrev pub mark_by : Bool → ℕ → Mark
 mark_by b zero = cond b cut_off kept
 mark_by b (suc o) = gone
 
@@ -48,11 +50,11 @@ module _ (f : ℕ → Bool) where
 
   -- the same marks by the tree, whose first entry has the number b
   abbrev mutual
-    pub marks_of : ℕ → Node → List ℕ
+    pub marks_of : ℕ → Node → List Mark
     marks_of b (inner r) = cond (f (b + sizes r)) (replicate (sizes r) gone ++ (cut_off ∷ [])) (marks_in b r ++ (kept ∷ []))
     marks_of b (leaf t v) = cond (f b) cut_off kept ∷ []
 
     -- of a run: the children's end to end
-    pub marks_in : ℕ → Run → List ℕ
+    pub marks_in : ℕ → Run → List Mark
     marks_in b nil = []
     marks_in b (cons n r) = marks_of b n ++ marks_in (b + size n) r

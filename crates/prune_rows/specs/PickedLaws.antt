@@ -3,12 +3,13 @@ use Rattle.std.specs.Prelude.{ℕ, zero, suc, ◌+◌, ◌*◌, ◌≤◌, ◌<�
 use Rattle.std.proofs.Common.{sym, ap, ap₂, ◌∙◌, append_assoc, arith, add-one, drop-cons, drop-drop}
 use Rattle.trees.specs.Rules.{label_bytes}
 use Rattle.trees.specs.Rows.{Entry}
+use Rattle.prune_rows.specs.declared.marks.Mark.{Mark}
 use Rattle.prune_rows.specs.Marks.{gone}
 use Rattle.prune_rows.specs.Picked.{picked, label_rows}
 
-module _ {A B : Type 0} (g : ℕ → Entry → A → List B) where
+module _ {A B : Type 0} (g : Mark → Entry → A → List B) where
   -- rows end to end give what they give, end to end
-  pub picked_append : (k : ℕ) (ms ns : List ℕ) (es fs : List Entry) (xs ys : List A) → length ms ≡ k → length es ≡ k → length xs ≡ k
+  pub picked_append : (k : ℕ) (ms ns : List Mark) (es fs : List Entry) (xs ys : List A) → length ms ≡ k → length es ≡ k → length xs ≡ k
       → picked g (ms ++ ns) (es ++ fs) (xs ++ ys) ≡ picked g ms es xs ++ picked g ns fs ys
   picked_append zero [] ns [] fs [] ys p q r = refl
   picked_append zero (m ∷ ms) ns es fs xs ys p q r = absurd (omega arith)
@@ -29,7 +30,7 @@ module _ {A B : Type 0} (g : ℕ → Entry → A → List B) where
   picked_gone h (suc k) (e ∷ es) (x ∷ xs) = ap (λ (l : List B). l ++ picked g (replicate k gone) es xs) (h e x) ∙ picked_gone h k es xs
 
   -- marks past the last row pick nothing
-  pub picked_take : (ms : List ℕ) (es : List Entry) (xs : List A) → picked g (take (length es) ms) es xs ≡ picked g ms es xs
+  pub picked_take : (ms : List Mark) (es : List Entry) (xs : List A) → picked g (take (length es) ms) es xs ≡ picked g ms es xs
   picked_take [] [] xs = refl
   picked_take (m ∷ ms) [] xs = refl
   picked_take [] (e ∷ es) xs = refl
@@ -37,8 +38,8 @@ module _ {A B : Type 0} (g : ℕ → Entry → A → List B) where
   picked_take (m ∷ ms) (e ∷ es) (x ∷ xs) = ap (λ (l : List B). g m e x ++ l) (picked_take ms es xs)
 
   -- what stands beside the rows matters only where a row looks at it
-  pub picked_agree : (d : A) (z : Entry) (ms : List ℕ) (es : List Entry) (xs ys : List A) → length es ≤ length xs → length es ≤ length ys
-      → ((k : ℕ) → k < length es → (m : ℕ) → g m (get_or es k z) (get_or xs k d) ≡ g m (get_or es k z) (get_or ys k d))
+  pub picked_agree : (d : A) (z : Entry) (ms : List Mark) (es : List Entry) (xs ys : List A) → length es ≤ length xs → length es ≤ length ys
+      → ((k : ℕ) → k < length es → (m : Mark) → g m (get_or es k z) (get_or xs k d) ≡ g m (get_or es k z) (get_or ys k d))
       → picked g ms es xs ≡ picked g ms es ys
   picked_agree d z [] es xs ys p q h = refl
   picked_agree d z (m ∷ ms) [] xs ys p q h = refl
@@ -48,14 +49,14 @@ module _ {A B : Type 0} (g : ℕ → Entry → A → List B) where
       ap₂ ◌++◌ (h 0 (omega arith) m) (picked_agree d z ms es xs ys (omega arith) (omega arith) (λ k l. h (suc k) (omega arith)))
 
 -- the rows from i on are row i and those behind it
-pub picked_step : {A B : Type 0} (g : ℕ → Entry → A → List B) (z : Entry) (d : A) (ms : List ℕ) (es : List Entry) (xs : List A) (i : ℕ)
+pub picked_step : {A B : Type 0} (g : Mark → Entry → A → List B) (z : Entry) (d : A) (ms : List Mark) (es : List Entry) (xs : List A) (i : ℕ)
     → i < length ms → i < length es → i < length xs
     → picked g (drop i ms) (drop i es) (drop i xs)
-    ≡ g (get_or ms i 0) (get_or es i z) (get_or xs i d) ++ picked g (drop (i + 1) ms) (drop (i + 1) es) (drop (i + 1) xs)
-picked_step g z d ms es xs i p q r = rw (add-one, drop-cons ms i 0 p, drop-cons es i z q, drop-cons xs i d r)
+    ≡ g (get_or ms i gone) (get_or es i z) (get_or xs i d) ++ picked g (drop (i + 1) ms) (drop (i + 1) es) (drop (i + 1) xs)
+picked_step g z d ms es xs i p q r = rw (add-one, drop-cons ms i gone p, drop-cons es i z q, drop-cons xs i d r)
 
 -- no rows give nothing
-pub picked_none : {A B : Type 0} (g : ℕ → Entry → A → List B) (ms : List ℕ) (xs : List A) → picked g ms [] xs ≡ []
+pub picked_none : {A B : Type 0} (g : Mark → Entry → A → List B) (ms : List Mark) (xs : List A) → picked g ms [] xs ≡ []
 picked_none g [] xs = refl
 picked_none g (m ∷ ms) xs = refl
 

@@ -14,7 +14,9 @@ use Rattle.tables.specs.TablesLaws.{length_entries}
 use Rattle.tables.specs.PruningList.{named, first_fault, pruned}
 use Rattle.tables.specs.Records.{Holds}
 use Rattle.tables.specs.Cells.{count_cell}
-use Rattle.prune_rows.specs.Marks.{Walk, at_end, walk, marks_of}
+use Rattle.prune_rows.specs.declared.marks.Mark.{Mark}
+use Rattle.prune_rows.specs.declared.marks.Mark.TheVariants.{Gone, Kept, CutOff}
+use Rattle.prune_rows.specs.Marks.{gone, cut_off, Walk, at_end, walk, marks_of}
 use Rattle.prune_rows.specs.Picked.{picked, row_by, label_rows}
 use Rattle.prune_rows.specs.Clauses.{Written}
 use Rattle.prune_rows.specs.MarksLaws.{walk_marks, cut_off_named}
@@ -24,11 +26,11 @@ use Rattle.prune_rows.specs.TableLaws.{entries_counts, entries_at}
 use Rattle.tables.proofs.ListRule.{named_inner}
 
 -- a row looks at its label only where it has children
-same_row : (m t c : ℕ) (v x y : List ℕ) → (0 < c → x ≡ y) → row_by m (entry_of t c v) x ≡ row_by m (entry_of t c v) y
+same_row : (m : Mark) (t c : ℕ) (v x y : List ℕ) → (0 < c → x ≡ y) → row_by m (entry_of t c v) x ≡ row_by m (entry_of t c v) y
 same_row m t (suc c) v x y e = ap (row_by m (node (suc c))) (e (omega arith))
-same_row zero t zero v x y e = refl
-same_row (suc zero) t zero v x y e = refl
-same_row (suc (suc m)) t zero v x y e = refl
+same_row Gone t zero v x y e = refl
+same_row Kept t zero v x y e = refl
+same_row CutOff t zero v x y e = refl
 
 module _ (H : List ℕ → List ℕ) (list : List ℕ) (n : Node) where
   from_zero : cut H (λ p. named list (0 + number n p)) n ≡ pruned H list n
@@ -51,25 +53,25 @@ written_rows rows used ts cs ls vs es w =
     sym t ∙ sym (length_entries (take rows ts) (take rows cs) (take rows ls) (take used vs) c l) ∙ ap length w.are
 
 -- the area has the marks that the list gives the table's rows
-abbrev pub Marked : List ℕ → List ℕ → List ℕ → Type 0
+abbrev pub Marked : List ℕ → List ℕ → List Mark → Type 0
 Marked list counts marks = take (length counts) marks ≡ (walk (named list) counts 0 at_end).marks
 
 -- then only internal rows are cut off
 pub marked_inner :
-    (list counts marks : List ℕ)
+    (list counts : List ℕ) (marks : List Mark)
     → first_fault counts 0 0 list ≡ length list
     → Marked list counts marks
     → (k : ℕ)
     → k < length counts
-    → 1 < get_or marks k 0
+    → get_or marks k gone ≡ cut_off
     → 0 < get_or counts k 0
 marked_inner list counts marks clean marked k h cut =
-    let is : get_or marks k 0 ≡ get_or (walk (named list) counts 0 at_end).marks k 0 =
-    sym (get_or-take (length counts) marks k 0 h) ∙ ap (λ (x : List ℕ). get_or x k 0) marked in
+    let is : get_or marks k gone ≡ get_or (walk (named list) counts 0 at_end).marks k gone =
+    sym (get_or-take (length counts) marks k gone h) ∙ ap (λ (x : List Mark). get_or x k gone) marked in
     named_inner counts list k clean
-    (ap (named list) (sym (zero-add k)) ∙ cut_off_named (named list) counts 0 at_end k h (omega arith))
+    (ap (named list) (sym (zero-add k)) ∙ cut_off_named (named list) counts 0 at_end k h (sym is ∙ cut))
 
-module _ (H : List ℕ → List ℕ) (n : Node) (types counts lengths values labels list marks : List ℕ)
+module _ (H : List ℕ → List ℕ) (n : Node) (types counts lengths values labels list : List ℕ) (marks : List Mark)
     (holds : Holds H n types counts lengths values labels) (marked : Marked list counts marks) where
   abbrev es : List Entry
   es = entries types counts lengths values
@@ -93,13 +95,13 @@ module _ (H : List ℕ → List ℕ) (n : Node) (types counts lengths values lab
   pub picked_table : picked row_by marks es (label_rows (length types) labels) ≡ pruned_rows H (named list) 0 n
   picked_table =
       sym (picked_take row_by marks es (label_rows (length types) labels))
-      ∙ ap (λ (ms : List ℕ). picked row_by ms es (label_rows (length types) labels)) marks_are
+      ∙ ap (λ (ms : List Mark). picked row_by ms es (label_rows (length types) labels)) marks_are
       ∙ picked_agree row_by [] (tip 0 []) (marks_of (named list) 0 n) es (label_rows (length types) labels) (labels_of H n)
       (omega (arith, entries_long, length_label_rows (length types) labels)) (omega (arith, entries_long, size_is, length_labels H n)) agree
       ∙ ap (λ (l : List Entry). picked row_by (marks_of (named list) 0 n) l (labels_of H n)) holds.table.rows_are
       ∙ picked_rows H (named list) 0 n
     where
-      agree : (k : ℕ) → k < length es → (m : ℕ)
+      agree : (k : ℕ) → k < length es → (m : Mark)
           → row_by m (get_or es k (tip 0 [])) (get_or (label_rows (length types) labels) k [])
           ≡ row_by m (get_or es k (tip 0 [])) (get_or (labels_of H n) k [])
       agree k h m =

@@ -3,6 +3,8 @@ use Rattle.std.specs.Prelude.{ℕ, ◌+◌, ◌*◌, ◌≤◌, ◌<◌, true, �
 use Rattle.trees.specs.Rules.{label_bytes}
 use Rattle.trees.specs.Rows.{Entry}
 use Rattle.tables.specs.Tables.{FormedIn, entries, row_fits}
+use Rattle.prune_rows.specs.declared.marks.Mark.{Mark}
+use Rattle.prune_rows.specs.Marks.{gone, cut_off}
 use Rattle.prune_rows.specs.Picked.{picked, row_by, label_rows}
 use Rattle.prune_rows.specs.Clauses.{Written}
 
@@ -34,20 +36,20 @@ pub record PutGives (e : Entry) (l rows used : ℕ) (ts cs ls vs : List ℕ) (ro
 
 -- one row of the first table, by its mark
 pub record TurnGives
-    (mark l : ℕ) (e : Entry) (label : List ℕ) (rows used : ℕ) (ts cs ls vs : List ℕ)
+    (mark : Mark) (l : ℕ) (e : Entry) (label : List ℕ) (rows used : ℕ) (ts cs ls vs : List ℕ)
     (rows' used' : ℕ) (ts' cs' ls' vs' : List ℕ) : Type 0 where
   pub row : rows' ≤ rows + 1
   pub bytes : used' ≤ used + l + label_bytes
   pub adds : Adds rows used ts cs ls vs (row_by mark e label) rows' used' ts' cs' ls' vs'
 
 -- a table of the form with its labels and marks, of which only internal rows are cut off
-pub record PickAsks (types counts lengths values labels marks : List ℕ) : Type 0 where
+pub record PickAsks (types counts lengths values labels : List ℕ) (marks : List Mark) : Type 0 where
   pub form : FormedIn types counts lengths values
   pub labels_room : label_bytes * length types ≤ length labels
-  pub cuts : (k : ℕ) → k < length types → 1 < get_or marks k 0 → 0 < get_or counts k 0
+  pub cuts : (k : ℕ) → k < length types → get_or marks k gone ≡ cut_off → 0 < get_or counts k 0
 
 -- what marks pick from a table
-pub record PickGives (types counts lengths values labels marks : List ℕ) (rows used : ℕ) (types2 counts2 lengths2 values2 : List ℕ) : Type 0 where
+pub record PickGives (types counts lengths values labels : List ℕ) (marks : List Mark) (rows used : ℕ) (types2 counts2 lengths2 values2 : List ℕ) : Type 0 where
   pub no_more : rows ≤ length types
   pub table :
       Written rows used types2 counts2 lengths2 values2

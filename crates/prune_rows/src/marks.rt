@@ -8,22 +8,18 @@ ghost use Rattle.tables.specs.ListRule.{Rising};
 
 use tables::form::cell;
 
-#[derive(Drop)]
-pub struct Mark {}
-
-impl Mark {
+#[derive(Clone, Copy, Debug, PartialEq, Eq)]
+pub enum Mark {
     // "its descendants go"
-    pub const GONE: u8 = 0;
-
-    pub const KEPT: u8 = 1;
-
+    Gone,
+    Kept,
     // "Each becomes dangling with its label"
-    pub const CUT_OFF: u8 = 2;
+    CutOff,
 }
 
-#[derive(Drop)]
+#[derive(Clone, Copy)]
 struct Fate {
-    mark: u8,
+    mark: Mark,
     owed: usize,
 }
 
@@ -36,18 +32,18 @@ fn fate_of(named: bool, c: usize, owed: usize) -> Fate
         let left = owed - 1;
         let owed = left + c;
         return Fate {
-            mark: Mark::GONE,
+            mark: Mark::Gone,
             owed,
         };
     }
     if named {
         return Fate {
-            mark: Mark::CUT_OFF,
+            mark: Mark::CutOff,
             owed: c,
         };
     }
     Fate {
-        mark: Mark::KEPT,
+        mark: Mark::Kept,
         owed: 0,
     }
 }
@@ -68,15 +64,13 @@ fn before(list: &[u16], k: usize, i: usize) -> usize
 }
 
 // Marks the rows of a table, by a list without fault.
-pub fn mark_rows(counts: &[u16], list: &[u16], marks: &mut [u8])
+pub fn mark_rows(counts: &[u16], list: &[u16], marks: &mut [Mark])
     requires { (length counts.now ≤ max_nodes) × (length counts.now ≤ length marks.old) × (first_fault counts.now 0 0 list.now ≡ length list.now) }
     ensures { take (length counts.now) marks.new ≡ (walk (named list.now) counts.now 0 at_end).marks }
 {
-    let mut i = counts.len();
     let mut k = list.len();
     let mut owed = 0;
-    while 0 < i {
-        i -= 1;
+    for i in (0..counts.len()).rev() {
         let first = before(list, k, i);
         let f = fate_of(first < k, cell(counts, i), owed);
         marks[i] = f.mark;

@@ -1,5 +1,5 @@
 // The pruning list: "entry numbers of internal nodes, strictly rising".
-ghost use Rattle.std.specs.Prelude.{◌≡◌, ◌&&◌, leb, ltb, get_or};
+ghost use Rattle.std.specs.Prelude.{◌≡◌, ◌<◌, ◌&&◌, leb, ltb, get_or, length, unwrap_or, IfSome};
 ghost use Rattle.tables.specs.PruningList.{first_fault};
 
 use tables::form::cell;
@@ -17,19 +17,18 @@ fn may_follow(x: usize, low: usize, counts: &[u16]) -> bool
     0 < cell(counts, x)
 }
 
-// The index of the first faulty number of the list, or its length.
-pub fn first_fault(list: &[u16], counts: &[u16]) -> usize
-    ensures { result ≡ first_fault counts.now 0 0 list.now }
+// The index of the first faulty number of the list.
+pub fn first_fault(list: &[u16], counts: &[u16]) -> Option<usize>
+    ensures within { IfSome result (λ i. i < length list.now) }
+    ensures first { unwrap_or result (length list.now) ≡ first_fault counts.now 0 0 list.now }
 {
     let mut low = 0;
-    let mut i = 0;
-    while i < list.len() {
-        let x = cell(list, i);
+    for (i, name) in list.iter().enumerate() {
+        let x = usize::from(*name);
         if !may_follow(x, low, counts) {
-            return i;
+            return Some(i);
         }
         low = x + 1;
-        i += 1;
     }
-    i
+    None
 }

@@ -9,6 +9,7 @@ use Rattle.tables.specs.PruningList.{named}
 use Rattle.tables.specs.Records.{Holds}
 use Rattle.sha256.specs.Sha256 as Sha256
 use Rattle.prune_rows.specs.Clauses.{Written, PruneAsks, PruneGives}
+use Rattle.prune_rows.specs.declared.marks.Mark.{Mark}
 use Rattle.prune_rows.specs.Steps.{PickAsks, PickGives}
 use Rattle.prune_rows.specs.PrunedLaws.{Marked, marked_inner, picked_table, pruned_some, written_rows}
 use Rattle.prune_tables.specs.Clauses.{CleanAsks}
@@ -18,7 +19,7 @@ pub able : {types counts lengths values labels list : List ℕ} → CleanAsks ty
     → PruneAsks types counts lengths values labels list
 able p = record { H = Sha256.label; n = p.asks.n; holds = p.asks.holds; clean = p.clean }
 
-module _ {types counts lengths values labels list marks : List ℕ} (x : PruneAsks types counts lengths values labels list)
+module _ {types counts lengths values labels list : List ℕ} {marks : List Mark} (x : PruneAsks types counts lengths values labels list)
     (marked : Marked list counts marks) where
   pub pickable : PickAsks types counts lengths values labels marks
   pickable =

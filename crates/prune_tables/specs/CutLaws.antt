@@ -21,6 +21,10 @@ use Rattle.prune_tables.specs.Pruned.{pruned_of}
 pub packs_as : {p q : Output Answer} {r : Answer} {out : List ℕ} → p ≡ q → Leaves p r out → Leaves q r out
 packs_as {r = r} {out} e x = subst (λ (y : Output Answer). Leaves y r out) e x
 
+-- an answer by another name
+pub answers_as : {o : Output Answer} {q r : Answer} {out : List ℕ} → q ≡ r → Leaves o r out → Leaves o q out
+answers_as e x = record { answered = e ∙ x.answered; written = x.written }
+
 -- a list of which no number is found faulty is clean
 pub fault_none : (counts list : List ℕ) → length list ≤ first_fault counts 0 0 list → first_fault counts 0 0 list ≡ length list
 fault_none counts list h = omega (arith, fault_within counts 0 0 list)

@@ -1,142 +1,91 @@
 // The pruning of a table: the list's fault, or the pruned tree's slip.
 #![tactic(auto)]
 
-ghost use Rattle.std.specs.Prelude.{◌≤◌, length};
-ghost use Rattle.tables.specs.Areas.{small_bytes, small_nodes};
-ghost use Rattle.prune_rows.specs.Clauses.{PickRoom};
+ghost use Rattle.std.specs.Prelude.{◌+◌, ◌*◌, ◌≤◌, length};
+ghost use Rattle.trees.specs.Rules.{max_nodes, max_bytes, label_bytes};
+ghost use Rattle.answers.specs.Answers.{answer_of};
+ghost use Rattle.send.specs.Sent.{sent_answer};
 ghost use Rattle.prune_tables.specs.Clauses.{CutAsks, CutGives, CleanAsks, CleanGives};
 
-use answers::Answer;
-use outcomes::Refusal;
+use answers::Accepted;
+use outcomes::numbers::{Refusal, Refused};
+use prune_rows::marks::Mark;
 use prune_rows::{marks, names};
 use tables::areas::{Full, Small};
 use tables::limits::Slip;
+use tables::table::Table;
 
-// Prunes a table by a list without fault in lent areas, and sends the pruned tree's slip.
-fn send_pruned(
-    types: &[u16],
-    counts: &[u16],
-    lengths: &[u16],
-    values: &[u8],
+// What the pruned table's values take: those of the table, and a label for each row.
+const SMALL: usize = Small::BYTES + Small::LABELS;
+
+const FULL: usize = Slip::MAX_BYTES + Full::LABELS;
+
+// Prunes a table by a list without fault, in areas for so many rows and bytes, and sends the pruned tree's slip.
+fn send_pruned<const ROWS: usize, const BYTES: usize>(
+    t: Table,
     labels: &[u8],
     list: &[u16],
     label: [u8; Slip::LABEL_BYTES],
-    types2: &mut [u16],
-    counts2: &mut [u16],
-    lengths2: &mut [u16],
-    values2: &mut [u8],
     out: &mut [u8],
-) -> Answer
-    requires { CleanAsks types.now counts.now lengths.now values.now labels.now list.now × PickRoom types.now lengths.now types2.old counts2.old lengths2.old values2.old }
-    ensures { CleanGives types.now counts.now lengths.now values.now labels.now list.now label out.old result out.new }
+) -> Result<Accepted, Refusal>
+    requires clean { CleanAsks t.types.now t.counts.now t.lengths.now t.values.now labels.now list.now }
+    requires room { (length t.types.now ≤ ROWS) × (length t.values.now + label_bytes * length t.types.now ≤ BYTES) × (ROWS ≤ max_nodes) × (BYTES ≤ 2 * max_bytes) }
+    ensures { CleanGives t.entry.types.now t.entry.counts.now t.entry.lengths.now t.entry.values.now labels.now list.now label out.old (sent_answer result) out.new }
 {
-    let mut marks = [0u8; Slip::MAX_NODES];
-    marks::mark_rows(counts, list, &mut marks);
+    let mut marks = [Mark::Gone; Slip::MAX_NODES];
+    marks::mark_rows(t.counts, list, &mut marks);
+    let mut types = [0u16; ROWS];
+    let mut counts = [0u16; ROWS];
+    let mut lengths = [0u16; ROWS];
+    let mut values = [0u8; BYTES];
     let p = pick_rows::pick(
-        types, counts, lengths, values, labels, &marks, types2, counts2, lengths2, values2,
+        t,
+        labels,
+        &marks,
+        &mut types,
+        &mut counts,
+        &mut lengths,
+        &mut values,
     );
-    let left = p.rows;
-    let used = p.used;
-    send::send_tree(
-        &types2[..left],
-        &counts2[..left],
-        &lengths2[..left],
-        &values2[..used],
-        label,
-        out,
-    )
+    let pruned = Table {
+        types: &types[..p.rows],
+        counts: &counts[..p.rows],
+        lengths: &lengths[..p.rows],
+        values: &values[..p.used],
+    };
+    send::send_tree(pruned, label, out)
 }
 
-// In areas for the table of a small slip.
-fn cut_small(
-    types: &[u16],
-    counts: &[u16],
-    lengths: &[u16],
-    values: &[u8],
+// The same in areas that suit the table.
+fn send_clean(
+    t: Table,
     labels: &[u8],
     list: &[u16],
     label: [u8; Slip::LABEL_BYTES],
     out: &mut [u8],
-) -> Answer
-    requires { CleanAsks types.now counts.now lengths.now values.now labels.now list.now × (length types.now ≤ small_nodes) × (length values.now ≤ small_bytes) }
-    ensures { CleanGives types.now counts.now lengths.now values.now labels.now list.now label out.old result out.new }
+) -> Result<Accepted, Refusal>
+    requires { CleanAsks t.types.now t.counts.now t.lengths.now t.values.now labels.now list.now }
+    ensures { CleanGives t.entry.types.now t.entry.counts.now t.entry.lengths.now t.entry.values.now labels.now list.now label out.old (sent_answer result) out.new }
 {
-    let mut types2 = [0u16; Small::NODES];
-    let mut counts2 = [0u16; Small::NODES];
-    let mut lengths2 = [0u16; Small::NODES];
-    let mut values2 = [0u8; Small::BYTES + Small::LABELS];
-    send_pruned(
-        types,
-        counts,
-        lengths,
-        values,
-        labels,
-        list,
-        label,
-        &mut types2,
-        &mut counts2,
-        &mut lengths2,
-        &mut values2,
-        out,
-    )
-}
-
-// In areas for any.
-fn cut_large(
-    types: &[u16],
-    counts: &[u16],
-    lengths: &[u16],
-    values: &[u8],
-    labels: &[u8],
-    list: &[u16],
-    label: [u8; Slip::LABEL_BYTES],
-    out: &mut [u8],
-) -> Answer
-    requires { CleanAsks types.now counts.now lengths.now values.now labels.now list.now }
-    ensures { CleanGives types.now counts.now lengths.now values.now labels.now list.now label out.old result out.new }
-{
-    let mut types2 = [0u16; Slip::MAX_NODES];
-    let mut counts2 = [0u16; Slip::MAX_NODES];
-    let mut lengths2 = [0u16; Slip::MAX_NODES];
-    let mut values2 = [0u8; Slip::MAX_BYTES + Full::LABELS];
-    send_pruned(
-        types,
-        counts,
-        lengths,
-        values,
-        labels,
-        list,
-        label,
-        &mut types2,
-        &mut counts2,
-        &mut lengths2,
-        &mut values2,
-        out,
-    )
+    if t.types.len() <= Small::NODES && t.values.len() <= Small::BYTES {
+        return send_pruned::<{ Small::NODES }, SMALL>(t, labels, list, label, out);
+    }
+    send_pruned::<{ Slip::MAX_NODES }, FULL>(t, labels, list, label, out)
 }
 
 // "12, 11", or the slip of the tree that the table holds, pruned; its root label is told.
 pub fn cut(
-    types: &[u16],
-    counts: &[u16],
-    lengths: &[u16],
-    values: &[u8],
+    t: Table,
     labels: &[u8],
     list: &[u16],
     label: [u8; Slip::LABEL_BYTES],
     out: &mut [u8],
-) -> Answer
-    requires { CutAsks types.now counts.now lengths.now values.now labels.now }
-    ensures { CutGives types.now counts.now lengths.now values.now labels.now list.now label out.old result out.new }
+) -> Result<Accepted, Refused>
+    requires { CutAsks t.types.now t.counts.now t.lengths.now t.values.now labels.now }
+    ensures { CutGives t.entry.types.now t.entry.counts.now t.entry.lengths.now t.entry.values.now labels.now list.now label out.old (answer_of result) out.new }
 {
-    let bad = names::first_fault(list, counts);
-    if bad < list.len() {
-        return answers::refused(Refusal::BAD_LIST, bad);
+    if let Some(bad) = names::first_fault(list, t.counts) {
+        return Err(Refusal::BadList.at(bad));
     }
-    if types.len() <= Small::NODES {
-        if values.len() <= Small::BYTES {
-            return cut_small(types, counts, lengths, values, labels, list, label, out);
-        }
-    }
-    cut_large(types, counts, lengths, values, labels, list, label, out)
+    Ok(send_clean(t, labels, list, label, out)?)
 }

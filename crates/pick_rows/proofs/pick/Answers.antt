@@ -7,14 +7,14 @@ use Rattle.pick_rows.proofs.pick.Goals as goal
 use Rattle.pick_rows.proofs.pick.Goals.{In-loop-i}
 
 pub loop-i-init : goal.loop-i-init
-loop-i-init c = (omega arith, refl, refl, refl, refl, going_none c.requires.pick_asks _ _ _ _)
+loop-i-init c = (refl, refl, refl, refl, going_none c.requires.pick_asks _ _ _ _)
 
 -- row i has a mark, and its value stands in the area
 marked : (c : In-loop-i) → c.loop-i.i < length c.args.marks.now
 marked c = omega (arith, c.requires.pick_room.1, c.loop-i-test.true)
 
-value_there : (c : In-loop-i) → c.loop-i.at + get_or c.args.lengths.now c.loop-i.i 0 ≤ length c.args.values.now
-value_there c = value_in c.requires.pick_asks c.loop-i.invariant.5 c.loop-i-test.true (marked c)
+value_there : (c : In-loop-i) → c.loop-i.at + get_or c.args.t.lengths.now c.loop-i.i 0 ≤ length c.args.t.values.now
+value_there c = value_in c.requires.pick_asks c.loop-i.invariant.4 c.loop-i-test.true (marked c)
 
 pub overflow_add-end : goal.overflow_add-end
 overflow_add-end c =
@@ -30,14 +30,14 @@ turn-p-requires c =
     let a = c.args in
     let l = c.loop-i in
     let r = p.pick_room.0 in
-    let here : l.i < length a.types.now = c.loop-i-test.true in
+    let here : l.i < length a.t.types.now = c.loop-i-test.true in
     let some = marked (goal.at.turn-p-requires c).In-loop-i in (
       p.pick_asks.cuts l.i here,
       simp (length-take, length-drop) (omega (arith, here, p.pick_asks.labels_room)),
-      going_puts p.pick_asks l.invariant.5 here some _ (value_part a.values.now l.at c.cell.result _ c.cell.ensures.0)
-          (omega (arith, r.types_room, l.invariant.1)) (omega (arith, r.counts_room, l.invariant.2)) (omega (arith, r.lengths_room, l.invariant.3))
-          (omega (arith, r.values_room, l.invariant.4)),
-      value_room p.pick_asks l.invariant.5 here some (length l.values2) (omega (arith, r.values_room, l.invariant.4)),
+      going_puts p.pick_asks l.invariant.4 here some _ (value_part a.t.values.now l.at c.cell.result _ c.cell.ensures.0)
+          (omega (arith, r.types_room, l.invariant.0)) (omega (arith, r.counts_room, l.invariant.1)) (omega (arith, r.lengths_room, l.invariant.2))
+          (omega (arith, r.values_room, l.invariant.3)),
+      value_room p.pick_asks l.invariant.4 here some (length l.values2) (omega (arith, r.values_room, l.invariant.3)),
     )
 
 pub loop-i-preserved : goal.loop-i-preserved
@@ -46,16 +46,15 @@ loop-i-preserved c =
     let l = c.loop-i in
     let turn = c.turn-p in
     let cell = c.cell in
-    let here : l.i < length a.types.now = c.loop-i-test.true in (
-      omega (arith, here),
-      turn.auto.types2 ∙ l.invariant.1,
-      turn.auto.counts2 ∙ l.invariant.2,
-      turn.auto.lengths2 ∙ l.invariant.3,
-      turn.auto.values2 ∙ l.invariant.4,
-      going_more c.requires.pick_asks l.invariant.5 here (marked (goal.at.loop-i-preserved c).In-loop-i) _ _
-          (value_part a.values.now l.at cell.result _ cell.ensures.0) (label_part a.labels.now l.i)
+    let here : l.i < length a.t.types.now = c.loop-i-test.true in (
+      turn.auto.types2 ∙ l.invariant.0,
+      turn.auto.counts2 ∙ l.invariant.1,
+      turn.auto.lengths2 ∙ l.invariant.2,
+      turn.auto.values2 ∙ l.invariant.3,
+      going_more c.requires.pick_asks l.invariant.4 here (marked (goal.at.loop-i-preserved c).In-loop-i) _ _
+          (value_part a.t.values.now l.at cell.result _ cell.ensures.0) (label_part a.labels.now l.i)
           (ap (λ (k : ℕ). l.at + k) cell.ensures.0) turn.ensures,
     )
 
 pub returns : goal.returns
-returns c = going_all c.requires.pick_asks c.loop-i-test.false c.loop-i.invariant.0 c.loop-i.invariant.5
+returns c = going_all c.requires.pick_asks c.loop-i-test.false c.loop-i.auto.i-end c.loop-i.invariant.4

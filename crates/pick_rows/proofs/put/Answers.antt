@@ -1,5 +1,5 @@
 use Prim.Native.Nat.{◌+◌, ◌-◌}
-use mathlib.Core.Path.{◌≡◌, refl}
+use mathlib.Core.Path.{◌≡◌, refl, ap}
 use native.Mathlib.Omega.{arith}
 use lib.ListN.{length}
 use Rattle.lists.specs.PartsLaws.{put_is}
@@ -15,8 +15,8 @@ returns c =
     let all : from + (length area - from) ≡ length area = omega (arith, p.values_room) in
     record {
       row = refl;
-      bytes = refl;
+      bytes = ap (λ n. from + n) c.from.ensures;
       adds =
-          written_more a.t a.c a.l a.p.rows from a.part.now a.types2.now a.counts2.now a.lengths2.now area _ p
-          (put_is area a.part.now _ from (length area - from) all c.copy.ensures.1);
+          rw c.from.ensures (written_more a.t a.c a.l a.p.rows from a.part.now a.types2.now a.counts2.now a.lengths2.now area _ p
+          (put_is area a.part.now _ from (length area - from) all c.copy.ensures.1));
     }

@@ -1,15 +1,15 @@
-use native.Mathlib.Omega.{arith}
+use Rattle.std.proofs.Common.{arith}
 use Rattle.tables.specs.Tables.{entry_of}
 use Rattle.pick_rows.proofs.Putting.{turn_kept, turn_cut, dangling_fits}
 use Rattle.pick_rows.proofs.turn.Goals as goal
 
-pub returns-then-mark-eq-KEPT : goal.returns-then-mark-eq-KEPT
-returns-then-mark-eq-KEPT c =
+pub returns-in-Kept : goal.returns-in-Kept
+returns-in-Kept c =
     let a = c.args in
-    turn_kept a.mark a.l a.p.rows a.p.used a.label.now _ _ _ _ _ _ _ _ _ _ (entry_of a.t a.c a.value.now) c.if-mark-eq-KEPT.true c.put.ensures
+    rw c.in-Kept.is (turn_kept a.l a.p.rows a.p.used a.label.now _ _ _ _ _ _ _ _ _ _ (entry_of a.t a.c a.value.now) c.put.ensures)
 
-pub put-requires-2 : goal.put-requires-2
-put-requires-2 c =
+pub put-requires-in-CutOff : goal.put-requires-in-CutOff
+put-requires-in-CutOff c =
     let p = c.requires in
     record {
       types_room = p.2.types_room;
@@ -20,8 +20,7 @@ put-requires-2 c =
       fits = dangling_fits;
     }
 
-pub returns : goal.returns
-returns c =
+pub returns-in-CutOff : goal.returns-in-CutOff
+returns-in-CutOff c =
     let a = c.args in
-    turn_cut a.mark a.l a.p.rows a.p.used a.label.now _ _ _ _ _ _ _ _ _ _ a.t a.c a.value.now
-    c.if-mark-eq-GONE.false c.if-mark-eq-KEPT.false c.requires.0 c.put-2.ensures
+    rw c.in-CutOff.is (turn_cut a.l a.p.rows a.p.used a.label.now _ _ _ _ _ _ _ _ _ _ a.t a.c a.value.now (c.requires.0 c.in-CutOff.is) c.put-in-CutOff.ensures)

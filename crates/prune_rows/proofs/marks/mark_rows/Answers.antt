@@ -14,7 +14,6 @@ use Rattle.prune_rows.proofs.marks.mark_rows.Goals as goal
 
 pub loop-i-init : goal.loop-i-init
 loop-i-init c = (
-  omega arith,
   refl,
   omega arith,
   before_all c.args.counts.now c.args.list.now c.requires.2,
@@ -28,17 +27,16 @@ loop-i-preserved c =
     let j : ℕ = l.i - 1 in
     let here : j + 1 ≡ l.i = omega (arith, c.loop-i-test.true) in
     let b = c.before-first.ensures (clean_rule a.counts.now a.list.now c.requires.2).0
-    (subst (λ (x : ℕ). Before a.list.now x l.k) (sym here) l.invariant.3) in
+    (subst (λ (x : ℕ). Before a.list.now x l.k) (sym here) l.invariant.2) in
     let low : owed_by (ltb c.before-first.result l.k) c.cell.result l.owed ≤ 65535 * (length a.counts.now - l.i) + 65535 =
-    owed_low (ltb c.before-first.result l.k) c.cell.result l.owed (65535 * (length a.counts.now - l.i)) c.cell.ensures.1 l.invariant.2 in
-    let owed : c.fate_of-f.result.owed ≤ 65535 * (length a.counts.now - j) = omega (arith, c.fate_of-f.ensures.1, low, l.invariant.0) in (
-      omega arith,
-      length-set l.marks j c.fate_of-f.result.mark ∙ l.invariant.1,
+    owed_low (ltb c.before-first.result l.k) c.cell.result l.owed (65535 * (length a.counts.now - l.i)) c.cell.ensures.1 l.invariant.1 in
+    let owed : c.fate_of-f.result.owed ≤ 65535 * (length a.counts.now - j) = omega (arith, c.fate_of-f.ensures.1, low, here) in (
+      length-set l.marks j c.fate_of-f.result.mark ∙ l.invariant.0,
       owed,
       b.0,
       walked_more (named a.list.now) a.counts.now l.marks j c.fate_of-f.result.mark l.owed c.fate_of-f.result.owed
           (omega arith) (omega arith)
-          (subst (λ (x : ℕ). Walked (named a.list.now) a.counts.now l.marks x l.owed) (sym here) l.invariant.4)
+          (subst (λ (x : ℕ). Walked (named a.list.now) a.counts.now l.marks x l.owed) (sym here) l.invariant.3)
           (c.fate_of-f.ensures.0 ∙ ap (λ (t : Bool). mark_by t l.owed) b.1)
           (c.fate_of-f.ensures.1 ∙ ap₂ (λ (t : Bool) (n : ℕ). owed_by t n l.owed) b.1 c.cell.ensures.0),
     )

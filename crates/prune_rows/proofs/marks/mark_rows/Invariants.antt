@@ -1,17 +1,11 @@
-use Prim.Native.Nat.{◌-◌, ◌*◌, ◌≤◌}
-use mathlib.Core.Path.{◌≡◌}
-use lib.ListN.{length}
+use Rattle.std.proofs.Common.{◌≡◌, ◌≤◌, ◌*◌, ◌-◌, length}
 use Rattle.tables.specs.PruningList.{named}
 use Rattle.prune_rows.specs.Steps.{Before}
 use Rattle.prune_rows.proofs.Marking.{Walked}
 use Rattle.prune_rows.proofs.marks.mark_rows.Given as goal
 
 abbrev pub invariant-loop-i : goal.invariant-loop-i
-invariant-loop-i l = (l.i ≤ length l.counts)
-    × (length l.marks ≡ length l.initial.marks)
+invariant-loop-i l = (length l.marks ≡ length l.initial.marks)
     × (l.owed ≤ 65535 * (length l.counts - l.i))
     × Before l.list l.i l.k
     × Walked (named l.list) l.counts l.marks l.i l.owed
-
-abbrev pub decreases-loop-i : goal.decreases-loop-i
-decreases-loop-i l = l.i
