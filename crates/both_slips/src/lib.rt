@@ -1,25 +1,27 @@
 // Two slips held in one set of columns, the second's table behind the first's.
 #![tactic(auto)]
 
+pub mod headed;
+
 ghost use Rattle.both_slips.specs.Clauses.{areas, BehindAsks, BehindGives, BothAsks, BothGives};
 
+use crate::headed::HeadedSlip;
 use answers::Answer;
 use slips::open;
 use slips::open::Opened;
 use tables::limits::Slip;
 
-// The refusal, or the first slip's answer with how many rows the first table and both have.
+// Both tables end to end: the label of their roots, and how many rows the first and both have.
 #[derive(Drop)]
-pub struct Pair {
-    pub answer: Answer,
+pub struct Held {
+    pub label: [u8; Slip::LABEL_BYTES],
     pub first: usize,
     pub rows: usize,
 }
 
-// Opens the second slip behind the rows and the value bytes of the first.
+// Opens the second slip behind the rows and the value bytes of the first: in parts of the areas, which are slices for that.
 fn open_behind(
-    u: &[u8],
-    m: usize,
+    second: HeadedSlip,
     first: usize,
     used: usize,
     types: &mut [u16],
@@ -28,13 +30,13 @@ fn open_behind(
     values: &mut [u8],
     labels: &mut [u8],
 ) -> Opened
-    requires { BehindAsks u.now m first used types.old counts.old lengths.old values.old labels.old }
-    ensures { BehindGives u.now first used result (areas types.old counts.old lengths.old values.old labels.old) (areas types.new counts.new lengths.new values.new labels.new) }
+    requires { BehindAsks second.bytes.now second.nodes first used types.old counts.old lengths.old values.old labels.old }
+    ensures { BehindGives second.entry.bytes.now first used result (areas types.old counts.old lengths.old values.old labels.old) (areas types.new counts.new lengths.new values.new labels.new) }
 {
     let at = Slip::LABEL_BYTES * first;
     open::open_in(
-        u,
-        m,
+        second.bytes,
+        second.nodes,
         &mut types[first..],
         &mut counts[first..],
         &mut lengths[first..],
@@ -43,30 +45,40 @@ fn open_behind(
     )
 }
 
-// Holds both slips, whose headers are taken, or says why not. The second is opened where the first is refused too: one way to carry the areas.
+// Holds both slips, or answers why not. The second is opened where the first is refused too: one way to carry the areas.
 pub fn hold_both(
-    s: &[u8],
-    n: usize,
-    u: &[u8],
-    m: usize,
+    first: HeadedSlip,
+    second: HeadedSlip,
     types: &mut [u16],
     counts: &mut [u16],
     lengths: &mut [u16],
     values: &mut [u8],
     labels: &mut [u8],
-) -> Pair
-    requires { BothAsks s.now n u.now m types.old counts.old lengths.old values.old labels.old }
-    ensures { BothGives s.now u.now result types.new counts.new lengths.new values.new labels.new }
+) -> Result<Held, Answer>
+    requires { BothAsks first second types.old counts.old lengths.old values.old labels.old }
+    ensures { BothGives first.entry.bytes.now second.entry.bytes.now result types.new counts.new lengths.new values.new labels.new }
 {
     // a slip has no more value bytes than bytes, so the rest of the values stays free for the second
-    let long = s.len();
-    let a = open::open_in(s, n, types, counts, lengths, &mut values[..long], labels);
-    let first = a.rows;
-    let b = open_behind(u, m, first, a.used, types, counts, lengths, values, labels);
-    let rows = first + b.rows;
-    Pair {
-        answer: answers::both(a.answer, b.answer),
-        first,
-        rows,
+    let room = first.bytes.len();
+    let a = open::open_in(
+        first.bytes,
+        first.nodes,
+        types,
+        counts,
+        lengths,
+        &mut values[..room],
+        labels,
+    );
+    let b = open_behind(
+        second, a.rows, a.used, types, counts, lengths, values, labels,
+    );
+    let answer = answers::both(Answer::from(a.answer), Answer::from(b.answer));
+    if !answer.is_accepted() {
+        return Err(answer);
     }
+    Ok(Held {
+        label: answer.label,
+        first: a.rows,
+        rows: a.rows + b.rows,
+    })
 }

@@ -20,11 +20,10 @@ pub back_done : (s : List ℕ) (e : ℕ) → back s 0 e ≡ e
 unfolding back
 back_done s e = refl
 
-pub back_step : (s : List ℕ) (k e : ℕ) → 0 < k → (e ≡ 0 → ⊥) → back s k e ≡ back s (k - 1) (get_or s (e - 1) 0)
+pub back_step : (s : List ℕ) (k n e : ℕ) → k ≡ n + 1 → (e ≡ 0 → ⊥) → back s k e ≡ back s n (get_or s (e - 1) 0)
 unfolding back
-back_step s zero e h q = absurd (omega arith)
-back_step s (suc k) zero h q = absurd (q refl)
-back_step s (suc k) (suc e) h q = rw (sub-one, sub-one)
+back_step s k n zero h q = absurd (q refl)
+back_step s k n (suc e) h q = rw (h, add-one, sub-one)
 
 -- a start written at r leaves what is found from r back
 pub back_set : (s : List ℕ) (r v k e : ℕ) → e ≤ r → ((x : ℕ) → x < e → get_or s x 0 ≤ x) → back (set s r v) k e ≡ back s k e

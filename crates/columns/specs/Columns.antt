@@ -56,14 +56,6 @@ pub record SurveyGives (counts lengths starts offsets : List ℕ) : Type 0 where
   pub started : Started counts starts (length counts)
   pub offsets_are : (x : ℕ) → x < length counts → get_or offsets x 0 ≡ sum (take x lengths)
 
--- row x has its label inside its area
-pub record LabelAsks (counts lengths values labels offsets : List ℕ) (x : ℕ) : Type 0 where
-  pub has_count : x < length counts
-  pub has_length : x < length lengths
-  pub has_offset : x < length offsets
-  pub inside : get_or offsets x 0 + get_or lengths x 0 ≤ length values
-  pub inside_labels : label_bytes * x + label_bytes ≤ length labels
-
 -- every row has a cell in each column, and its part of the area
 pub record Placed (types counts lengths values offsets : List ℕ) : Type 0 where
   pub counts_long : length counts ≡ length types

@@ -1,5 +1,6 @@
 -- What is read off the columns of tables. Definitions, in reading order:
 pub mod Columns
+pub mod Seen
 pub mod Meetings
 pub mod Gathers
 -- Laws:

@@ -1,97 +1,56 @@
 // Whether two internal rows have the same heads of children, which says that their prelabels are equal.
 ghost use Rattle.std.specs.Prelude.{◌≡◌, ◌≤◌, ◌<◌, length};
-ghost use Rattle.lists.specs.Lists as Lists;
-ghost use Rattle.columns.specs.Columns.{text_at, head_at, heads_back, same_head, heads_agree, none_left, LabelAsks, Walkable};
+ghost use Rattle.columns.specs.Columns.{heads_back, same_head, heads_agree, none_left};
+ghost use Rattle.columns.specs.Seen.{text_of, head_of};
 
-use tables::form::cell;
+use crate::walkable::Columns;
 use tables::limits::Slip;
 
 // The label of a row.
-fn label<'a>(
-    counts: &[u16],
-    lengths: &[u16],
-    values: &'a [u8],
-    labels: &'a [u8],
-    offsets: &[usize],
-    x: usize,
-) -> &'a [u8]
-    requires { LabelAsks counts.now lengths.now values.now labels.now offsets.now x }
-    ensures { result.now ≡ text_at counts.now lengths.now values.now labels.now offsets.now x }
+fn label<'a>(c: Columns<'a>, x: usize) -> &'a [u8]
+    requires { x < length c.table.types.now }
+    ensures { result.now ≡ text_of c.entry x }
 {
-    if cell(counts, x) == 0 {
-        let from = offsets[x];
-        let to = from + cell(lengths, x);
-        return &values[from..to];
+    if c.table.counts[x] == 0 {
+        let from = c.offsets[x];
+        let to = from + usize::from(c.table.lengths[x]);
+        return &c.table.values[from..to];
     }
     let at = Slip::LABEL_BYTES * x;
-    let end = at + Slip::LABEL_BYTES;
-    &labels[at..end]
+    &c.labels[at..at + Slip::LABEL_BYTES]
 }
 
 // Whether the parents of two rows hash the same of them.
-fn same_head<'a>(
-    types: &[u16],
-    counts: &[u16],
-    lengths: &[u16],
-    values: &'a [u8],
-    labels: &'a [u8],
-    offsets: &[usize],
-    x: usize,
-    y: usize,
-) -> bool
-    requires { (x < length types.now) × (y < length types.now) × LabelAsks counts.now lengths.now values.now labels.now offsets.now x × LabelAsks counts.now lengths.now values.now labels.now offsets.now y }
-    ensures { result ≡ same_head (head_at types.now counts.now lengths.now values.now labels.now offsets.now x) (head_at types.now counts.now lengths.now values.now labels.now offsets.now y) }
+fn same_head(c: Columns, x: usize, y: usize) -> bool
+    requires { (x < length c.table.types.now) × (y < length c.table.types.now) }
+    ensures { result ≡ same_head (head_of c.entry x) (head_of c.entry y) }
 {
-    if types[x] != types[y] {
-        return false;
-    }
-    check::same(
-        label(counts, lengths, values, labels, offsets, x),
-        label(counts, lengths, values, labels, offsets, y),
-    )
+    c.table.types[x] == c.table.types[y] && label(c, x) == label(c, y)
 }
 
 // No child is left, or no row before `e` or `f`.
 pub fn none_left(count: usize, e: usize, f: usize) -> bool
     ensures { result ≡ none_left count e f }
 {
-    if count == 0 {
-        return true;
-    }
-    if e == 0 {
-        return true;
-    }
-    f == 0
+    count == 0 || e == 0 || f == 0
 }
 
 // Whether the roots of the last `count` subtrees before row `i` and before row `j` have the same heads, as far as both go.
-pub(crate) fn same_heads<'a>(
-    types: &[u16],
-    counts: &[u16],
-    lengths: &[u16],
-    values: &'a [u8],
-    labels: &'a [u8],
-    starts: &[usize],
-    offsets: &[usize],
-    count: usize,
-    i: usize,
-    j: usize,
-) -> bool
-    requires { Walkable types.now counts.now lengths.now values.now labels.now starts.now offsets.now × (i ≤ length types.now) × (j ≤ length types.now) }
-    ensures { result ≡ heads_agree (heads_back (head_at types.now counts.now lengths.now values.now labels.now offsets.now) starts.now count i) (heads_back (head_at types.now counts.now lengths.now values.now labels.now offsets.now) starts.now count j) }
+pub(crate) fn same_heads(c: Columns, count: usize, i: usize, j: usize) -> bool
+    requires { (i ≤ length c.table.types.now) × (j ≤ length c.table.types.now) }
+    ensures { result ≡ heads_agree (heads_back (head_of c.entry) c.entry.starts.now count i) (heads_back (head_of c.entry) c.entry.starts.now count j) }
 {
-    let mut k = count;
     let mut e = i;
     let mut f = j;
-    while !none_left(k, e, f) {
-        let x = e - 1;
-        let y = f - 1;
-        if !same_head(types, counts, lengths, values, labels, offsets, x, y) {
+    for k in 0..count {
+        if none_left(count - k, e, f) {
+            return true;
+        }
+        if !same_head(c, e - 1, f - 1) {
             return false;
         }
-        e = starts[x];
-        f = starts[y];
-        k -= 1;
+        e = c.starts[e - 1];
+        f = c.starts[f - 1];
     }
     true
 }

@@ -5,3 +5,4 @@ pub mod gather;
 pub mod heads;
 pub mod meet;
 pub mod survey;
+pub mod walkable;

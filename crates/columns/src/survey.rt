@@ -4,21 +4,17 @@ ghost use Rattle.trees.specs.Rules.{max_nodes};
 ghost use Rattle.tables.specs.Tables.{sum};
 ghost use Rattle.columns.specs.Columns.{back, Started, SurveyGives};
 
-use tables::form::cell;
-
 // The row that `count` subtrees start at which end before row `end`.
 fn first_row(starts: &[usize], count: usize, end: usize) -> usize
     requires { (end ≤ length starts.now) × ((x : ℕ) → x < end → get_or starts.now x 0 ≤ x) }
     ensures { (result ≡ back starts.now count end) × (result ≤ end) }
 {
     let mut at = end;
-    let mut k = count;
-    while 0 < k {
+    for _k in 0..count {
         if at == 0 {
             return 0;
         }
         at = starts[at - 1];
-        k -= 1;
     }
     at
 }
@@ -27,12 +23,8 @@ fn fill_starts(counts: &[u16], starts: &mut [usize])
     requires { length starts.old ≡ length counts.now }
     ensures { Started counts.now starts.new (length counts.now) }
 {
-    let mut i = 0;
-    while i < counts.len() {
-        let count = cell(counts, i);
-        let first = first_row(starts, count, i);
-        starts[i] = first;
-        i += 1;
+    for (i, count) in counts.iter().enumerate() {
+        starts[i] = first_row(starts, usize::from(*count), i);
     }
 }
 
@@ -41,11 +33,9 @@ fn fill_offsets(lengths: &[u16], offsets: &mut [usize])
     ensures { (x : ℕ) → x < length lengths.now → get_or offsets.new x 0 ≡ sum (take x lengths.now) }
 {
     let mut total = 0;
-    let mut i = 0;
-    while i < lengths.len() {
+    for (i, length) in lengths.iter().enumerate() {
         offsets[i] = total;
-        total += cell(lengths, i);
-        i += 1;
+        total += usize::from(*length);
     }
 }
 

@@ -1,41 +1,22 @@
 -- The join's tests behind the headers, one after the other.
 use Prim.Native.Nat.{ℕ}
-use mathlib.Core.Bool.{Bool, true, false, not, cond, ◌&&◌}
+use mathlib.Core.Bool.{Bool, true, false, not, cond}
 use mathlib.Core.List.{List}
 use mathlib.Core.Path.{◌≡◌, refl, ap, ◌∙◌, subst}
-use borrow.Author.Tests.{eq-eqb, eqb-true, leb-true, not-false}
-use lib.Dec.{eqb, leb}
-use lib.ListN.{length}
-use Rattle.lists.specs.TestsLaws.{and_left, and_right}
+use borrow.Author.Tests.{eq-eqb, eqb-true, not-false}
+use lib.Dec.{eqb}
 use Rattle.lists.specs.Lists.{same}
 use Rattle.outcomes.specs.Refusals.{accepted, roots_differ}
 use Rattle.outcomes.specs.Outcome.{Output, Leaves, still}
-use Rattle.trees.specs.Rules.{max_bytes, max_nodes}
 use Rattle.trees.specs.Join.{join}
-use Rattle.tables.specs.Areas.{small_bytes, small_nodes}
 use Rattle.answers.specs.declared.Answer.{Answer}
 use Rattle.answers.specs.Answers.{refused}
 use Rattle.answers.specs.Both.{sided, both_of}
 use Rattle.answers.specs.BothLaws.{both_by, both_told}
 use Rattle.slips.specs.Check.{body_of}
 use Rattle.slips.specs.SlipTree.{slip_tree}
-use Rattle.both_slips.specs.Clauses.{Headed}
 use Rattle.join_tables.specs.Joined.{joined_of}
 use Rattle.join_bodies.specs.Bodies.{bodies_of}
-
--- of a small slip
-pub headed_small : (s : List ℕ) {n : ℕ} → Headed s n max_bytes max_nodes → (leb (length s) small_bytes && leb n small_nodes) ≡ true → Headed s n small_bytes small_nodes
-headed_small s {n} h e =
-    record {
-      taken = h.taken;
-      is =
-          record {
-            head = h.is.head;
-            long = leb-true (length s) small_bytes (and_left (leb (length s) small_bytes) (leb n small_nodes) e);
-            counted = h.is.counted;
-            few = leb-true n small_nodes (and_right (leb (length s) small_bytes) (leb n small_nodes) e);
-          };
-    }
 
 module _ (H : List ℕ → List ℕ) (composed : List ℕ → Bool) (s u out : List ℕ) where
   -- a refusal by the outcomes of the tests leaves the output

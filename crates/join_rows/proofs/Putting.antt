@@ -3,7 +3,6 @@ use mathlib.Core.Path.{◌≡◌, refl, sym, ap, ap₂, ◌∙◌}
 use mathlib.Core.List.{List, ◌∷◌, ◌++◌}
 use Prim.Native.Nat.{ℕ, zero, suc, ◌-◌, ◌≤◌, ◌<◌}
 use native.Mathlib.Numerals.{sub-one}
-use native.Mathlib.Nat.{sub_self}
 use native.Mathlib.Omega.{arith}
 use lib.ListN.{length, drop, set, length-set}
 use lib.Seq.{drop-cons, get_or-set_same, drop-set-lt}
@@ -14,9 +13,6 @@ drop_set_here l j v h =
     drop-cons (set l j v) j 0 (omega (arith, length-set l j v))
     ∙ ap₂ (λ (x : ℕ) (y : List ℕ). x ∷ y) (get_or-set_same l j v 0 h) (drop-set-lt (suc j) l j v (omega arith))
 
-pub put_none : (l : List ℕ) (at to : ℕ) → drop at l ≡ upto to (to - to) ++ drop at l
-put_none l at to = rw (sub_self to)
-
 -- one row more in front
 pub put_more : (l m : List ℕ) (low row to at : ℕ) → (low ≡ 0 → ⊥) → 0 < row → row ≤ to → low ≤ length l
     → drop low l ≡ upto row (to - row) ++ drop at m
@@ -26,7 +22,3 @@ put_more l m (suc low) zero to at q h k g e = absurd (omega arith)
 put_more l m (suc low) (suc row) to at q h k g e =
     let n : to - row ≡ suc (to - suc row) = omega arith in
     rw (sub-one, sub-one) (drop_set_here l low row (omega arith) ∙ ap (λ (x : List ℕ). row ∷ x) e ∙ ap (λ (x : ℕ). upto row x ++ drop at m) (sym n))
-
-pub put_done : (l m : List ℕ) (low row from to at : ℕ) → from ≡ row → drop low l ≡ upto row (to - row) ++ drop at m
-    → drop low l ≡ upto from (to - from) ++ drop at m
-put_done l m low row from to at e h = rw e h

@@ -1,5 +1,5 @@
 -- Rows meet as the nodes do that they show, and each way of meeting gives the join.
-use Rattle.std.specs.Prelude.{◌≡◌, refl, Bool, true, false, cond, ℕ, ◌+◌, ◌≤◌, ◌<◌, eqb, length, get_or}
+use Rattle.std.specs.Prelude.{◌≡◌, refl, Result, Ok, Err, Bool, true, false, cond, ℕ, ◌+◌, ◌≤◌, ◌<◌, eqb, length, get_or}
 use Rattle.std.proofs.Math.Path.{sym, ap}
 use Rattle.std.proofs.Common.{ap₂, ◌∙◌, subst, add-zero, arith, eqb-true, eq-eqb, ne_eqb}
 use mathlib.Core.List.{List, append-nil}
@@ -13,7 +13,7 @@ use Rattle.trees.specs.Join.{join, join_run}
 use Rattle.trees.proofs.JoinLaws.{join_run_good}
 use Rattle.columns.specs.declared.meet.Meeting.{Meeting}
 use Rattle.columns.specs.declared.meet.Meeting.TheVariants.{Clash, Take, Both}
-use Rattle.join_rows.specs.declared.walk.Walked.{Walked}
+use Rattle.join_rows.specs.declared.plan.Clash as code
 use Rattle.join_rows.specs.Faces.{Face, no_face, count_of_face, faces, faces_in, root}
 use Rattle.join_rows.specs.FacesLaws.{length_faces}
 use Rattle.columns.specs.Columns.{head_at, heads_back, heads_agree}
@@ -99,13 +99,13 @@ module _ (H : List ℕ → List ℕ) where
 
     -- a clash here is the first
     pub clash_said : (a b : Node) (x y at : ℕ) (p : List ℕ) → meeting_of (root x a) (root y b) a b ≡ Clash
-        → Said H fs a b x y at p p (record { clash = true; first = root x a; second = root y b; at = at }) (join H a b)
+        → Said H fs a b x y at p p (Err (record { first = root x a; second = root y b })) (join H a b)
     clash_said (inner r) (inner s) x y at p e = go (same (prelabel (heads H r)) (prelabel (heads H s))) refl e
       where
         go : (b : Bool) → same (prelabel (heads H r)) (prelabel (heads H s)) ≡ b → cond b Both Clash ≡ Clash
-            → Said H fs (inner r) (inner s) x y at p p (record { clash = true; first = x + sizes r; second = y + sizes s; at = at }) (join H (inner r) (inner s))
+            → Said H fs (inner r) (inner s) x y at p p (Err (record { first = x + sizes r; second = y + sizes s })) (join H (inner r) (inner s))
         go true q f = absurd (let z : ◌≡◌ {A = ℕ} 0 1 = cc in omega arith)
-        go false q f = rw q (refl, refl, refl)
+        go false q f = rw q (refl, refl)
     clash_said (inner r) (leaf u m) x y at p e = absurd (let z : ◌≡◌ {A = ℕ} 0 1 = cc in omega arith)
     clash_said (leaf t l) (inner s) x y at p e = absurd (let z : ◌≡◌ {A = ℕ} 0 1 = cc in omega arith)
     clash_said (leaf t l) (leaf u m) x y at p e = absurd (let z : ◌≡◌ {A = ℕ} 0 1 = cc in omega arith)
@@ -123,25 +123,25 @@ module _ (H : List ℕ → List ℕ) where
     -- "below a place that is internal in one slip only, it holds that slip's nodes"
     pub take_said : (a b : Node) (x y at low row : ℕ) (p q : List ℕ) → At no_face fs x (faces H a) → At no_face fs y (faces H b)
         → meeting_of (root x a) (root y b) a b ≡ Take row → PutGives (get_or starts row 0) (row + 1) at p q low
-        → Said H fs a b x y at p q (record { clash = false; first = 0; second = 0; at = low }) (join H a b)
+        → Said H fs a b x y at p q (Ok low) (join H a b)
     take_said (inner r) (inner s) x y at low row p q h k e g =
         absurd (go (same (prelabel (heads H r)) (prelabel (heads H s))) e)
       where
         go : (b : Bool) → cond b Both Clash ≡ Take row → ⊥
         go true f = let z : ◌≡◌ {A = ℕ} 0 1 = cc in omega arith
         go false f = let z : ◌≡◌ {A = ℕ} 0 1 = cc in omega arith
-    take_said (inner r) (leaf u m) x y at low row p q h k e g = (refl, λ room. taken (inner r) x row at low p q (cc) h g (omega arith))
-    take_said (leaf t l) (inner s) x y at low row p q h k e g = (refl, λ room. taken (inner s) y row at low p q (cc) k g (omega arith))
-    take_said (leaf t l) (leaf u m) x y at low row p q h k e g = (refl, λ room. taken (leaf t l) x row at low p q (cc) h g (omega arith))
+    take_said (inner r) (leaf u m) x y at low row p q h k e g = λ room. taken (inner r) x row at low p q (cc) h g (omega arith)
+    take_said (leaf t l) (inner s) x y at low row p q h k e g = λ room. taken (inner s) y row at low p q (cc) k g (omega arith)
+    take_said (leaf t l) (leaf u m) x y at low row p q h k e g = λ room. taken (leaf t l) x row at low p q (cc) h g (omega arith)
 
     -- what a walk of two runs says, for the children of two nodes
-    abbrev pub RunsSaid : ℕ → ℕ → ℕ → ℕ → List ℕ → List ℕ → Walked → Type 0
+    abbrev pub RunsSaid : ℕ → ℕ → ℕ → ℕ → List ℕ → List ℕ → Result ℕ code.Clash → Type 0
     RunsSaid e f k at q z w =
         (r s : Run) (x y : ℕ) → At no_face fs x (faces_in H r) → At no_face fs y (faces_in H s) → e ≡ x + sizes r → f ≡ y + sizes s
         → k ≡ count r → heads H r ≡ heads H s → SaidRun H fs r s x y at q z w (join_run H r s)
 
     -- "The join of a node is made from its run of children"
-    pub both_said : (a b : Node) (x y at mid : ℕ) (p q z : List ℕ) (w : Walked) → At no_face fs x (faces H a) → At no_face fs y (faces H b)
+    pub both_said : (a b : Node) (x y at mid : ℕ) (p q z : List ℕ) (w : Result ℕ code.Clash) → At no_face fs x (faces H a) → At no_face fs y (faces H b)
         → meeting_of (root x a) (root y b) a b ≡ Both → PutGives (root x a) (root x a + 1) at p q mid
         → RunsSaid (root x a) (root y b) (get_or counts (root x a) 0) mid q z w
         → Said H fs a b x y at p z w (join H a b)

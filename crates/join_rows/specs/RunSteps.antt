@@ -1,5 +1,5 @@
 -- A run is walked from its last child; one with no child left joins to none.
-use Rattle.std.specs.Prelude.{◌≡◌, refl, Bool, true, false, cond, ◌||◌, List, [], ℕ, ◌+◌, ◌-◌, eqb, length, get_or}
+use Rattle.std.specs.Prelude.{◌≡◌, refl, Result, Ok, Err, IfOk, true, ◌||◌, List, [], ℕ, ◌+◌, ◌-◌, ◌≤◌, eqb, length, get_or}
 use Rattle.std.proofs.Common.{sym, ap, ◌∙◌, subst, subst₂, arith, eqb-true}
 use Rattle.lists.specs.ListsLaws.{append_cancel, nil_cons, at_front, at_back}
 use Rattle.lists.specs.TestsLaws.{or_cases}
@@ -8,7 +8,8 @@ use Rattle.trees.proofs.NodesLaws.{some_size}
 use Rattle.trees.proofs.StackLaws.{length_heads}
 use Rattle.trees.specs.Join.{join, join_run}
 use Rattle.columns.specs.Columns.{none_left}
-use Rattle.join_rows.specs.declared.walk.Walked.{Walked}
+use Rattle.std.specs.Result.{result_unwrap_or}
+use Rattle.join_rows.specs.declared.plan.Clash.{Clash}
 use Rattle.lists.specs.Lists.{At}
 use Rattle.join_rows.specs.Faces.{Face, no_face, faces, faces_in, root}
 use Rattle.join_rows.specs.FacesLaws.{length_faces_in}
@@ -27,13 +28,16 @@ no_size : (r : Run) → sizes r ≡ 0 → r ≡ nil
 no_size nil e = refl
 no_size (cons n r) e = absurd (omega (arith, some_size n))
 
-pub earlier_at : (front last : Walked) → (earlier_of front last).at ≡ front.at
-earlier_at front last = go front.clash
-  where
-    go : (b : Bool)
-        → (cond b front (record { clash = last.clash; first = last.first; second = last.second; at = front.at })).at ≡ front.at
-    go true = refl
-    go false = refl
+-- the cells written stand before those that were there
+pub low_cell : (last : Result ℕ Clash) (at : ℕ) → IfOk last (λ low. low ≤ at) → result_unwrap_or last at ≤ at
+low_cell (Ok low) at h = h
+low_cell (Err k) at h = omega arith
+
+pub earlier_low : (front last : Result ℕ Clash) (at : ℕ) → IfOk last (λ low. low ≤ at) → IfOk front (λ low. low ≤ result_unwrap_or last at)
+    → IfOk (earlier_of front last) (λ low. low ≤ at)
+earlier_low (Err front) last at h g = g
+earlier_low (Ok low) (Err last) at h g = h
+earlier_low (Ok low) (Ok mid) at h g = omega arith
 
 module _ (H : List ℕ → List ℕ) (fs : List Face) (types counts lengths values labels starts offsets : List ℕ)
     (reads : Reads H fs types counts lengths values labels starts offsets) where
@@ -41,13 +45,13 @@ module _ (H : List ℕ → List ℕ) (fs : List Face) (types counts lengths valu
   same_count r s e = sym (length_heads H r) ∙ ap length e ∙ length_heads H s
 
   empty_said : (r s : Run) (x y at : ℕ) (p : List ℕ) → r ≡ nil → s ≡ nil
-      → SaidRun H fs r s x y at p p (record { clash = false; first = 0; second = 0; at = at }) (join_run H r s)
-  empty_said nil nil x y at p d e = (refl, λ room. record { cells = []; spent = omega arith; is = refl; names = tt })
+      → SaidRun H fs r s x y at p p (Ok at) (join_run H r s)
+  empty_said nil nil x y at p d e = λ room. record { cells = []; spent = omega arith; is = refl; names = tt }
   empty_said nil (cons m s) x y at p d e = absurd (let z : count (cons m s) ≡ 0 = ap count e in omega arith)
   empty_said (cons n r) s x y at p d e = absurd (let z : count (cons n r) ≡ 0 = ap count d in omega arith)
 
   pub none_said : (k e f at : ℕ) (p : List ℕ) → none_left k e f ≡ true
-      → RunsSaid H fs types counts lengths values labels starts offsets reads e f k at p p (record { clash = false; first = 0; second = 0; at = at })
+      → RunsSaid H fs types counts lengths values labels starts offsets reads e f k at p p (Ok at)
   none_said k e f at p h r s x y u v a b c d =
       or_cases (eqb k 0) (eqb e 0 || eqb f 0) h
       (λ q. let z : r ≡ nil = no_count r (sym c ∙ eqb-true k 0 q) in empty_said r s x y at p z (other z))
@@ -60,7 +64,7 @@ module _ (H : List ℕ → List ℕ) (fs : List Face) (types counts lengths valu
       other z = no_count s (sym (same_count r s d) ∙ ap count z)
 
   -- what a walk of two nodes says
-  abbrev pub NodesSaid : ℕ → ℕ → ℕ → List ℕ → List ℕ → Walked → Type 0
+  abbrev pub NodesSaid : ℕ → ℕ → ℕ → List ℕ → List ℕ → Result ℕ Clash → Type 0
   NodesSaid i j at p q w =
       (a b : Node) (x y : ℕ) → At no_face fs x (faces H a) → At no_face fs y (faces H b) → i ≡ root x a → j ≡ root y b
       → Said H fs a b x y at p q w (join H a b)
@@ -87,10 +91,10 @@ module _ (H : List ℕ → List ℕ) (fs : List Face) (types counts lengths valu
       (omega (arith, length_heads H r, length_heads H s, count_snoc r n, count_snoc s m))
       (sym (heads_snoc H r n) ∙ e ∙ heads_snoc H s m)).0
 
-  module _ (k e f at : ℕ) (p q z : List ℕ) (front last : Walked)
+  module _ (k e f at : ℕ) (p q z : List ℕ) (front last : Result ℕ Clash)
       (nodes : NodesSaid (e - 1) (f - 1) at p q last)
       (runs : RunsSaid H fs types counts lengths values labels starts offsets reads (get_or starts (e - 1) 0) (get_or starts (f - 1) 0) (k - 1)
-      last.at q z front) where
+      (result_unwrap_or last at) q z front) where
     abbrev Joins : ℕ → ℕ → Run → Run → Type 0
     Joins x y r s =
         At no_face fs x (faces_in H r) → At no_face fs y (faces_in H s) → e ≡ x + sizes r → f ≡ y + sizes s → k ≡ count r → heads H r ≡ heads H s

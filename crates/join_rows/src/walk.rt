@@ -1,42 +1,11 @@
 // The two trees walked backwards in step, from their roots, the last child first.
-ghost use Rattle.std.specs.Prelude.{◌≡◌, true, false, ◌≤◌, ◌<◌, length};
-ghost use Rattle.columns.specs.Columns.{Walkable};
+ghost use Rattle.std.specs.Prelude.{◌≡◌, ◌≤◌, ◌<◌, length};
 ghost use Rattle.join_rows.specs.Walks.{earlier_of, PutGives, NodeGives, RunGives};
 
+use crate::plan::Clash;
 use columns::heads::none_left;
 use columns::meet::{Meeting, meet};
-use tables::form::cell;
-
-// A clash and its two rows, or the first cell of the plan that is written.
-#[derive(Drop)]
-pub struct Walked {
-    pub clash: bool,
-    pub first: usize,
-    pub second: usize,
-    pub at: usize,
-}
-
-fn clashed(i: usize, j: usize, at: usize) -> Walked
-    ensures { result ≡ record { clash = true; first = i; second = j; at = at } }
-{
-    Walked {
-        clash: true,
-        first: i,
-        second: j,
-        at,
-    }
-}
-
-fn unclashed(at: usize) -> Walked
-    ensures { result ≡ record { clash = false; first = 0; second = 0; at = at } }
-{
-    Walked {
-        clash: false,
-        first: 0,
-        second: 0,
-        at,
-    }
-}
+use columns::walkable::Columns;
 
 // Writes the rows from `from` up to `to` in front of cell `at`, as far as there is room, and answers the first cell written.
 fn put(plan: &mut [usize], at: usize, from: usize, to: usize) -> usize
@@ -44,114 +13,73 @@ fn put(plan: &mut [usize], at: usize, from: usize, to: usize) -> usize
     ensures { PutGives from to at plan.old plan.new result }
 {
     let mut low = at;
-    let mut row = to;
-    while from < row {
+    for row in (from..to).rev() {
         if low == 0 {
             return 0;
         }
         low -= 1;
-        row -= 1;
         plan[low] = row;
     }
     low
 }
 
 // The clash in front comes first.
-fn earlier(front: Walked, last: Walked) -> Walked
+fn earlier(front: Result<usize, Clash>, last: Result<usize, Clash>) -> Result<usize, Clash>
     ensures { result ≡ earlier_of front last }
 {
-    if front.clash {
-        return front;
-    }
-    Walked {
-        clash: last.clash,
-        first: last.first,
-        second: last.second,
-        at: front.at,
-    }
+    let low = front?;
+    last?;
+    Ok(low)
 }
 
 // "The join of a node is made from its run of children": the nodes at rows `i` and `j`, in front of cell `at`.
+// The first clash, by its rows, or the first cell of the plan that is written.
 #[cycle(node_run)]
-pub(crate) fn node<'a>(
-    types: &[u16],
-    counts: &[u16],
-    lengths: &[u16],
-    values: &'a [u8],
-    labels: &'a [u8],
-    starts: &[usize],
-    offsets: &[usize],
+pub(crate) fn node(
+    c: Columns,
     plan: &mut [usize],
     i: usize,
     j: usize,
     at: usize,
-) -> Walked
-    requires { Walkable types.now counts.now lengths.now values.now labels.now starts.now offsets.now × (i < length types.now) × (j < length types.now) × (at ≤ length plan.old) }
-    ensures { NodeGives types.now counts.now lengths.now values.now labels.now starts.now offsets.now plan.old plan.new i j at result }
+) -> Result<usize, Clash>
+    requires { (i < length c.table.types.now) × (j < length c.table.types.now) × (at ≤ length plan.old) }
+    ensures { NodeGives c.entry plan.old plan.new i j at result }
 {
-    let meeting = meet(
-        types, counts, lengths, values, labels, starts, offsets, i, j,
-    );
-    match meeting {
-        Meeting::Clash => clashed(i, j, at),
-        Meeting::Take(row) => {
-            let from = starts[row];
-            let low = put(plan, at, from, row + 1);
-            unclashed(low)
-        }
+    match meet(c, i, j) {
+        Meeting::Clash => Err(Clash {
+            first: i,
+            second: j,
+        }),
+        Meeting::Take(row) => Ok(put(plan, at, c.starts[row], row + 1)),
         Meeting::Both => {
             let top = put(plan, at, i, i + 1);
-            let count = cell(counts, i);
-            run(
-                types, counts, lengths, values, labels, starts, offsets, plan, i, j, count, top,
-            )
+            run(c, plan, i, j, usize::from(c.table.counts[i]), top)
         }
     }
 }
 
 // "and the join of a run from its first child and the rest", here from its last: `count` children before rows `e` and `f`.
 #[cycle(node_run)]
-fn run<'a>(
-    types: &[u16],
-    counts: &[u16],
-    lengths: &[u16],
-    values: &'a [u8],
-    labels: &'a [u8],
-    starts: &[usize],
-    offsets: &[usize],
+fn run(
+    c: Columns,
     plan: &mut [usize],
     e: usize,
     f: usize,
     count: usize,
     at: usize,
-) -> Walked
-    requires { Walkable types.now counts.now lengths.now values.now labels.now starts.now offsets.now × (e ≤ length types.now) × (f ≤ length types.now) × (at ≤ length plan.old) }
-    ensures { RunGives types.now counts.now lengths.now values.now labels.now starts.now offsets.now plan.old plan.new e f count at result }
+) -> Result<usize, Clash>
+    requires { (e ≤ length c.table.types.now) × (f ≤ length c.table.types.now) × (at ≤ length plan.old) }
+    ensures { RunGives c.entry plan.old plan.new e f count at result }
 {
     if none_left(count, e, f) {
-        return unclashed(at);
+        return Ok(at);
     }
     let x = e - 1;
     let y = f - 1;
-    let last = node(
-        types, counts, lengths, values, labels, starts, offsets, plan, x, y, at,
-    );
-    let low = last.at;
-    let e1 = starts[x];
-    let f1 = starts[y];
-    let front = run(
-        types,
-        counts,
-        lengths,
-        values,
-        labels,
-        starts,
-        offsets,
-        plan,
-        e1,
-        f1,
-        count - 1,
-        low,
-    );
+    let last = node(c, plan, x, y, at);
+    let low = last.unwrap_or(at);
+    let e1 = c.starts[x];
+    let f1 = c.starts[y];
+    let front = run(c, plan, e1, f1, count - 1, low);
     earlier(front, last)
 }

@@ -6,6 +6,7 @@ use Rattle.trees.specs.Join.{Alike, join}
 use Rattle.trees.specs.Rows.{rows}
 use Rattle.tables.specs.Records.{TreeTable}
 use Rattle.outcomes.specs.Refusals.{join_too_large}
+use Rattle.tables.specs.declared.table.Table as code
 use Rattle.tables.specs.Tables.{sum}
 use Rattle.codec.specs.Writing.{slip_of}
 use Rattle.sha256.specs.Sha256 as Sha256
@@ -27,35 +28,29 @@ DeliverGives types counts lengths values l out r left =
     (n : Node) → TreeTable n types counts lengths values → l ≡ label Sha256.label n → Leaves (fitted Sha256.label n out) r left
 
 -- the table that a plan names is that of a tree, and no larger than both tables
-pub record HandOutAsks (plan types counts lengths values offsets : List ℕ) : Type 0 where
-  pub plan_is : Gatherable plan types counts lengths values offsets
-  pub sized : sum (map (cell_of lengths) plan) ≤ length values
-  pub most : length values ≤ 2 * max_bytes
+pub record HandOutAsks (plan : List ℕ) (t : code.Table) (offsets : List ℕ) : Type 0 where
+  pub plan_is : Gatherable plan t.types.now t.counts.now t.lengths.now t.values.now offsets
+  pub sized : sum (map (cell_of t.lengths.now) plan) ≤ length t.values.now
+  pub most : length t.values.now ≤ 2 * max_bytes
   pub tree : Node
-  pub table : TreeTable tree (map (cell_of types) plan) (map (cell_of counts) plan) (map (cell_of lengths) plan) (values_of plan lengths values offsets)
+  pub table : TreeTable tree (map (cell_of t.types.now) plan) (map (cell_of t.counts.now) plan) (map (cell_of t.lengths.now) plan) (values_of plan t.lengths.now t.values.now offsets)
 
-abbrev pub HandOutGives : List ℕ → List ℕ → List ℕ → List ℕ → List ℕ → List ℕ → List ℕ → List ℕ → Answer → List ℕ → Type 0
-HandOutGives plan types counts lengths values offsets =
-    DeliverGives (map (cell_of types) plan) (map (cell_of counts) plan) (map (cell_of lengths) plan) (values_of plan lengths values offsets)
+abbrev pub HandOutGives : List ℕ → code.Table → List ℕ → List ℕ → List ℕ → Answer → List ℕ → Type 0
+HandOutGives plan t offsets =
+    DeliverGives (map (cell_of t.types.now) plan) (map (cell_of t.counts.now) plan) (map (cell_of t.lengths.now) plan) (values_of plan t.lengths.now t.values.now offsets)
 
 -- columns that hold two trees
-pub record MergeAsks (first : ℕ) (types counts lengths values labels : List ℕ) : Type 0 where
+pub record MergeAsks (first : ℕ) (t : code.Table) (labels : List ℕ) : Type 0 where
   pub a : Node
   pub b : Node
-  pub two : TwoTables Sha256.label a b first types counts lengths values labels
-  pub most : length values ≤ 2 * max_bytes
+  pub two : TwoTables Sha256.label a b first t.types.now t.counts.now t.lengths.now t.values.now labels
+  pub most : length t.values.now ≤ 2 * max_bytes
 
 -- whatever trees with one root label the columns hold, the outcome is that of their join
-abbrev pub MergeGives : ℕ → List ℕ → List ℕ → List ℕ → List ℕ → List ℕ → List ℕ → List ℕ → Answer → List ℕ → Type 0
-MergeGives first root types counts lengths values labels out r left =
+abbrev pub MergeGives : ℕ → List ℕ → code.Table → List ℕ → List ℕ → Answer → List ℕ → Type 0
+MergeGives first root t labels out r left =
     (a b : Node)
-    → TwoTables Sha256.label a b first types counts lengths values labels
+    → TwoTables Sha256.label a b first t.types.now t.counts.now t.lengths.now t.values.now labels
     → Alike Sha256.label a b
     → label Sha256.label a ≡ root
     → Leaves (joined_of Sha256.label a b out (join Sha256.label a b)) r left
-
--- room for where each row's subtree and value start, and for the plan
-pub record PlanRoom (types starts offsets cells : List ℕ) : Type 0 where
-  pub starts_long : length starts ≡ length types
-  pub offsets_long : length offsets ≡ length types
-  pub cells_room : length types ≤ length cells

@@ -1,155 +1,71 @@
 // The table that a plan names, handed out as a slip unless it is too large.
 ghost use Rattle.std.specs.Prelude.{◌*◌, ◌≤◌, length};
-ghost use Rattle.tables.specs.Areas.{small_bytes, small_nodes};
-ghost use Rattle.columns.specs.Gathers.{GatherAsks};
+ghost use Rattle.trees.specs.Rules.{max_nodes, max_bytes};
 ghost use Rattle.send.specs.Clauses.{SendTreeAsks};
+ghost use Rattle.send.specs.Sent.{sent_answer};
 ghost use Rattle.join_tables.specs.Clauses.{DeliverGives, HandOutAsks, HandOutGives};
 
 use crate::areas::{FullPair, SmallPair};
-use answers::Answer;
+use answers::Accepted;
 use codec::measure;
 use columns::gather;
-use outcomes::Refusal;
+use outcomes::numbers::Refusal;
+use tables::areas::Areas;
 use tables::limits::Slip;
+use tables::table::Table;
 
 // "15, 11", or the slip.
-fn deliver(
-    types: &[u16],
-    counts: &[u16],
-    lengths: &[u16],
-    values: &[u8],
-    label: [u8; Slip::LABEL_BYTES],
-    out: &mut [u8],
-) -> Answer
-    requires { SendTreeAsks types.now counts.now lengths.now values.now }
-    ensures { DeliverGives types.now counts.now lengths.now values.now label out.old result out.new }
+fn deliver(t: Table, label: [u8; Slip::LABEL_BYTES], out: &mut [u8]) -> Result<Accepted, Refusal>
+    requires { SendTreeAsks t.types.now t.counts.now t.lengths.now t.values.now }
+    ensures { DeliverGives t.entry.types.now t.entry.counts.now t.entry.lengths.now t.entry.values.now label out.old (sent_answer result) out.new }
 {
-    let bytes = measure::size(types, counts, lengths);
+    let bytes = measure::size(t);
     if Slip::MAX_BYTES < bytes {
-        return answers::refused(Refusal::JOIN_TOO_LARGE, 0);
+        return Err(Refusal::JoinTooLarge);
     }
-    send::send_tree(types, counts, lengths, values, label, out)
+    send::send_tree(t, label, out)
 }
 
-// Gathers the plan's table in lent areas, and delivers it.
-fn gather_in(
+// Gathers the plan's table in areas of this size, and delivers it.
+fn hand_out_in<const ROWS: usize, const BYTES: usize>(
     plan: &[usize],
-    types: &[u16],
-    counts: &[u16],
-    lengths: &[u16],
-    values: &[u8],
+    t: Table,
     offsets: &[usize],
     label: [u8; Slip::LABEL_BYTES],
-    types2: &mut [u16],
-    counts2: &mut [u16],
-    lengths2: &mut [u16],
-    values2: &mut [u8],
     out: &mut [u8],
-) -> Answer
-    requires { HandOutAsks plan.now types.now counts.now lengths.now values.now offsets.now × GatherAsks plan.now types.now counts.now lengths.now values.now offsets.now types2.old counts2.old lengths2.old values2.old }
-    ensures { HandOutGives plan.now types.now counts.now lengths.now values.now offsets.now label out.old result out.new }
+) -> Result<Accepted, Refusal>
+    requires { HandOutAsks plan.now t offsets.now × (length plan.now ≤ ROWS) × (length t.values.now ≤ BYTES) × (ROWS ≤ 2 * max_nodes) × (BYTES ≤ 2 * max_bytes) }
+    ensures { HandOutGives plan.now t.entry offsets.now label out.old (sent_answer result) out.new }
 {
+    let mut areas = Areas::<ROWS, BYTES, 0>::new();
     let g = gather::gather(
-        plan, types, counts, lengths, values, offsets, types2, counts2, lengths2, values2,
+        plan,
+        t,
+        offsets,
+        &mut areas.types,
+        &mut areas.counts,
+        &mut areas.lengths,
+        &mut areas.values,
     );
-    let rows = g.rows;
-    let used = g.used;
-    deliver(
-        &types2[..rows],
-        &counts2[..rows],
-        &lengths2[..rows],
-        &values2[..used],
-        label,
-        out,
-    )
+    deliver(areas.table(g.rows, g.used), label, out)
 }
 
-// In areas for a table as small as two small slips'.
-fn small(
-    plan: &[usize],
-    types: &[u16],
-    counts: &[u16],
-    lengths: &[u16],
-    values: &[u8],
-    offsets: &[usize],
-    label: [u8; Slip::LABEL_BYTES],
-    out: &mut [u8],
-) -> Answer
-    requires { HandOutAsks plan.now types.now counts.now lengths.now values.now offsets.now × (length plan.now ≤ 2 * small_nodes) × (length values.now ≤ 2 * small_bytes) }
-    ensures { HandOutGives plan.now types.now counts.now lengths.now values.now offsets.now label out.old result out.new }
-{
-    let mut types2 = [0u16; SmallPair::ROWS];
-    let mut counts2 = [0u16; SmallPair::ROWS];
-    let mut lengths2 = [0u16; SmallPair::ROWS];
-    let mut values2 = [0u8; SmallPair::BYTES];
-    gather_in(
-        plan,
-        types,
-        counts,
-        lengths,
-        values,
-        offsets,
-        label,
-        &mut types2,
-        &mut counts2,
-        &mut lengths2,
-        &mut values2,
-        out,
-    )
-}
-
-// In areas for any: a plan has no more rows than a slip.
-fn large(
-    plan: &[usize],
-    types: &[u16],
-    counts: &[u16],
-    lengths: &[u16],
-    values: &[u8],
-    offsets: &[usize],
-    label: [u8; Slip::LABEL_BYTES],
-    out: &mut [u8],
-) -> Answer
-    requires { HandOutAsks plan.now types.now counts.now lengths.now values.now offsets.now }
-    ensures { HandOutGives plan.now types.now counts.now lengths.now values.now offsets.now label out.old result out.new }
-{
-    let mut types2 = [0u16; Slip::MAX_NODES];
-    let mut counts2 = [0u16; Slip::MAX_NODES];
-    let mut lengths2 = [0u16; Slip::MAX_NODES];
-    let mut values2 = [0u8; FullPair::BYTES];
-    gather_in(
-        plan,
-        types,
-        counts,
-        lengths,
-        values,
-        offsets,
-        label,
-        &mut types2,
-        &mut counts2,
-        &mut lengths2,
-        &mut values2,
-        out,
-    )
-}
-
-// Hands out the slip of the rows that the plan names, unless it is too large.
+// Hands out the slip of the rows that the plan names, unless it is too large: in areas for a table as small as two small
+// slips', or for any, since a plan has no more rows than a slip.
 pub fn hand_out(
     plan: &[usize],
-    types: &[u16],
-    counts: &[u16],
-    lengths: &[u16],
-    values: &[u8],
+    t: Table,
     offsets: &[usize],
     label: [u8; Slip::LABEL_BYTES],
     out: &mut [u8],
-) -> Answer
-    requires { HandOutAsks plan.now types.now counts.now lengths.now values.now offsets.now }
-    ensures { HandOutGives plan.now types.now counts.now lengths.now values.now offsets.now label out.old result out.new }
+) -> Result<Accepted, Refusal>
+    requires { HandOutAsks plan.now t offsets.now }
+    ensures { HandOutGives plan.now t.entry offsets.now label out.old (sent_answer result) out.new }
 {
-    if plan.len() <= SmallPair::ROWS {
-        if values.len() <= SmallPair::BYTES {
-            return small(plan, types, counts, lengths, values, offsets, label, out);
-        }
+    if plan.len() <= SmallPair::ROWS && t.values.len() <= SmallPair::BYTES {
+        return hand_out_in::<{ SmallPair::ROWS }, { SmallPair::BYTES }>(
+            plan, t, offsets, label, out,
+        );
     }
-    large(plan, types, counts, lengths, values, offsets, label, out)
+    hand_out_in::<{ Slip::MAX_NODES }, { FullPair::BYTES }>(plan, t, offsets, label, out)
 }

@@ -1,140 +1,84 @@
 // The join of the two trees that the columns hold.
 #![tactic(auto)]
 
-ghost use Rattle.std.specs.Prelude.{◌*◌, ◌≤◌, length};
-ghost use Rattle.tables.specs.Areas.{small_nodes};
-ghost use Rattle.join_tables.specs.Clauses.{MergeAsks, MergeGives, PlanRoom};
+ghost use Rattle.std.specs.Prelude.{◌*◌, ◌≤◌, ◌<◌, length};
+ghost use Rattle.trees.specs.Rules.{max_nodes};
+ghost use Rattle.outcomes.specs.Outcome.{Leaves, still};
+ghost use Rattle.outcomes.specs.Refusals.{join_too_large};
+ghost use Rattle.answers.specs.Answers.{refused, answer_of};
+ghost use Rattle.join_tables.specs.Clauses.{HandOutAsks, HandOutGives, MergeAsks, MergeGives};
 
-use answers::Answer;
+use answers::{Accepted, Answer};
 use columns::survey;
+use columns::walkable::Columns;
 use join_rows::plan;
 use join_tables::areas::{FullPair, SmallPair};
 use join_tables::gathered;
-use outcomes::Refusal;
+use outcomes::numbers::{Refusal, Refused};
 use tables::limits::Slip;
+use tables::table::Table;
 
-// Plans the join in lent areas, and hands out its slip. The first `first` rows are the first tree's; `label` is that of both roots.
-fn merge_in<'a>(
+// "15, 11", or the slip of the rows that the plan names.
+fn hand_out(
+    plan: &[usize],
+    t: Table,
+    offsets: &[usize],
+    label: [u8; Slip::LABEL_BYTES],
+    out: &mut [u8],
+) -> Result<Accepted, Refused>
+    requires { length plan.now ≤ max_nodes → HandOutAsks plan.now t offsets.now }
+    ensures large { max_nodes < length plan.now → Leaves (still (refused join_too_large 0) out.old) (answer_of result) out.new }
+    ensures fits { length plan.now ≤ max_nodes → HandOutGives plan.now t.entry offsets.now label out.old (answer_of result) out.new }
+{
+    if Slip::MAX_NODES < plan.len() {
+        return Err(Refusal::JoinTooLarge.at(0));
+    }
+    Ok(gathered::hand_out(plan, t, offsets, label, out)?)
+}
+
+// Plans the join in areas of this size, and hands out its slip.
+fn merge_in<'a, const ROWS: usize>(
     first: usize,
     label: [u8; Slip::LABEL_BYTES],
-    types: &[u16],
-    counts: &[u16],
-    lengths: &[u16],
-    values: &'a [u8],
+    t: Table<'a>,
     labels: &'a [u8],
-    starts: &mut [usize],
-    offsets: &mut [usize],
-    cells: &mut [usize],
     out: &mut [u8],
 ) -> Answer
-    requires { MergeAsks first types.now counts.now lengths.now values.now labels.now × PlanRoom types.now starts.old offsets.old cells.old }
-    ensures { MergeGives first label types.now counts.now lengths.now values.now labels.now out.old result out.new }
+    requires { MergeAsks first t labels.now × (length t.types.now ≤ ROWS) × (ROWS ≤ 2 * max_nodes) }
+    ensures { MergeGives first label t.entry labels.now out.old result out.new }
 {
-    survey::survey(counts, lengths, starts, offsets);
-    let p = plan::plan(
-        first, types, counts, lengths, values, labels, starts, offsets, cells,
-    );
-    if p.clash {
-        return answers::clashed(p.first, p.second);
-    }
-    if Slip::MAX_NODES < p.rows {
-        return answers::refused(Refusal::JOIN_TOO_LARGE, 0);
-    }
-    let from = cells.len() - p.rows;
-    gathered::hand_out(
-        &cells[from..],
-        types,
-        counts,
-        lengths,
-        values,
+    let mut starts = [0usize; ROWS];
+    let mut offsets = [0usize; ROWS];
+    let mut cells = [0usize; ROWS];
+    let starts = &mut starts[..t.types.len()];
+    let offsets = &mut offsets[..t.types.len()];
+    let cells = &mut cells[..t.types.len()];
+    survey::survey(t.counts, t.lengths, starts, offsets);
+    let c = Columns {
+        table: t,
+        labels,
+        starts,
         offsets,
-        label,
-        out,
-    )
+    };
+    match plan::plan(first, c, cells) {
+        Ok(rows) => Answer::from(hand_out(&cells[cells.len() - rows..], t, offsets, label, out)),
+        Err(clash) => answers::clashed(clash.first, clash.second),
+    }
 }
 
-// In areas for the rows of two small slips.
-fn small<'a>(
-    first: usize,
-    label: [u8; Slip::LABEL_BYTES],
-    types: &[u16],
-    counts: &[u16],
-    lengths: &[u16],
-    values: &'a [u8],
-    labels: &'a [u8],
-    out: &mut [u8],
-) -> Answer
-    requires { MergeAsks first types.now counts.now lengths.now values.now labels.now × (length types.now ≤ 2 * small_nodes) }
-    ensures { MergeGives first label types.now counts.now lengths.now values.now labels.now out.old result out.new }
-{
-    let mut starts = [0usize; SmallPair::ROWS];
-    let mut offsets = [0usize; SmallPair::ROWS];
-    let mut cells = [0usize; SmallPair::ROWS];
-    let rows = types.len();
-    merge_in(
-        first,
-        label,
-        types,
-        counts,
-        lengths,
-        values,
-        labels,
-        &mut starts[..rows],
-        &mut offsets[..rows],
-        &mut cells,
-        out,
-    )
-}
-
-// In areas for those of any two slips.
-fn large<'a>(
-    first: usize,
-    label: [u8; Slip::LABEL_BYTES],
-    types: &[u16],
-    counts: &[u16],
-    lengths: &[u16],
-    values: &'a [u8],
-    labels: &'a [u8],
-    out: &mut [u8],
-) -> Answer
-    requires { MergeAsks first types.now counts.now lengths.now values.now labels.now }
-    ensures { MergeGives first label types.now counts.now lengths.now values.now labels.now out.old result out.new }
-{
-    let mut starts = [0usize; FullPair::ROWS];
-    let mut offsets = [0usize; FullPair::ROWS];
-    let mut cells = [0usize; FullPair::ROWS];
-    let rows = types.len();
-    merge_in(
-        first,
-        label,
-        types,
-        counts,
-        lengths,
-        values,
-        labels,
-        &mut starts[..rows],
-        &mut offsets[..rows],
-        &mut cells,
-        out,
-    )
-}
-
-// "14 .., 15, 11", or the slip of the joined tree.
+// "14 .., 15, 11", or the slip of the joined tree. The first `first` rows are the first tree's; `label` is that of both roots.
 pub fn merge<'a>(
     first: usize,
     label: [u8; Slip::LABEL_BYTES],
-    types: &[u16],
-    counts: &[u16],
-    lengths: &[u16],
-    values: &'a [u8],
+    t: Table<'a>,
     labels: &'a [u8],
     out: &mut [u8],
 ) -> Answer
-    requires { MergeAsks first types.now counts.now lengths.now values.now labels.now }
-    ensures { MergeGives first label types.now counts.now lengths.now values.now labels.now out.old result out.new }
+    requires { MergeAsks first t labels.now }
+    ensures { MergeGives first label t.entry labels.now out.old result out.new }
 {
-    if types.len() <= SmallPair::ROWS {
-        return small(first, label, types, counts, lengths, values, labels, out);
+    if t.types.len() <= SmallPair::ROWS {
+        return merge_in::<{ SmallPair::ROWS }>(first, label, t, labels, out);
     }
-    large(first, label, types, counts, lengths, values, labels, out)
+    merge_in::<{ FullPair::ROWS }>(first, label, t, labels, out)
 }
