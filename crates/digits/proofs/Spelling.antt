@@ -1,18 +1,9 @@
 -- Laws of digits, over any list: what is left of them behind some.
-use Prim.Native.Nat.{ℕ, ◌+◌, ◌*◌, ◌≤◌, ◌<◌}
-use mathlib.Core.Path.{◌≡◌, refl, sym, ap, ◌∙◌}
-use mathlib.Core.Bool.{Bool, true, false, cond}
-use mathlib.Core.List.{List, [], ◌∷◌, ◌++◌, append_assoc}
-use native.Mathlib.Omega.{arith}
-use borrow.Author.Tests.{lt-ltb, le-ltb}
-use lib.Dec.{ltb}
-use lib.ListN.{length, take, drop, get_or, set}
+use Rattle.std.proofs.Common.{◌≡◌, ℕ, ◌+◌, ◌*◌, ◌≤◌, ◌<◌, Bool, false, true, ◌&&◌, List, [], ◌∷◌, ◌++◌, length, take, drop, get_or, slice_set, refl, sym, ap, ◌∙◌, append_assoc, arith, Some, is_some}
+use Rattle.std.proofs.Math.ListN.{drop_of_length-le}
+use Rattle.std.specs.Option.{option_and_then}
 use Rattle.lists.specs.PartsLaws.{next_cons, one_more}
-use Rattle.digits.specs.Digits.{digit_of, is_hex, bytes_of, none, longer_by, reads, number_of}
-
--- a test of one digit, and of two
-picks : (x : ℕ) (t : Bool) → ltb 15 (digit_of x) ≡ t → (r : Bool) → cond (ltb 15 (digit_of x)) false r ≡ cond t false r
-picks x t e r = ap (λ (u : Bool). cond u false r) e
+use Rattle.digits.specs.Digits.{digit_of, value_of, is_hex, bytes_of, longer_with, reads, number_of}
 
 module _ (l : List ℕ) (i : ℕ) (there : 2 * i + 1 < length l) where
   -- the two digits of byte i, and those behind them
@@ -22,32 +13,24 @@ module _ (l : List ℕ) (i : ℕ) (there : 2 * i + 1 < length l) where
       next_cons l (2 * i) 0 (omega arith)
       ∙ ap (λ (x : List ℕ). get_or l (2 * i) 0 ∷ x) (next_cons l (2 * i + 1) 0 there ∙ ap (λ (n : ℕ). get_or l (2 * i + 1) 0 ∷ drop n l) next)
 
-  pub bad_first : 15 < digit_of (get_or l (2 * i) 0) → is_hex (drop (2 * i) l) ≡ false
+  pub hex_more : is_hex (drop (2 * i) l) ≡ ((is_some (digit_of (get_or l (2 * i) 0)) && is_some (digit_of (get_or l (2 * i + 1) 0))) && is_hex (drop (2 * (i + 1)) l))
   unfolding is_hex
-  bad_first h = ap is_hex two_more ∙ picks _ true (lt-ltb 15 _ h) _
-
-  pub bad_second : digit_of (get_or l (2 * i) 0) ≤ 15 → 15 < digit_of (get_or l (2 * i + 1) 0) → is_hex (drop (2 * i) l) ≡ false
-  unfolding is_hex
-  bad_second g h = ap is_hex two_more ∙ picks _ false (le-ltb 15 _ g) _ ∙ picks _ true (lt-ltb 15 _ h) _
-
-  pub hex_more : digit_of (get_or l (2 * i) 0) ≤ 15 → digit_of (get_or l (2 * i + 1) 0) ≤ 15 → is_hex (drop (2 * i) l) ≡ is_hex (drop (2 * (i + 1)) l)
-  unfolding is_hex
-  hex_more g h = ap is_hex two_more ∙ picks _ false (le-ltb 15 _ g) _ ∙ picks _ false (le-ltb 15 _ h) _
+  hex_more = ap is_hex two_more
 
   -- the byte put down
   pub bytes_more :
       (out : List ℕ) (x y : ℕ)
-      → x ≡ digit_of (get_or l (2 * i) 0)
-      → y ≡ digit_of (get_or l (2 * i + 1) 0)
+      → digit_of (get_or l (2 * i) 0) ≡ Some x
+      → digit_of (get_or l (2 * i + 1) 0) ≡ Some y
       → i < length out
       → take i out ++ bytes_of (drop (2 * i) l) ≡ bytes_of l
-      → take (i + 1) (set out i (16 * x + y)) ++ bytes_of (drop (2 * (i + 1)) l) ≡ bytes_of l
-  unfolding bytes_of
+      → take (i + 1) (slice_set out i (16 * x + y)) ++ bytes_of (drop (2 * (i + 1)) l) ≡ bytes_of l
+  unfolding bytes_of value_of
   bytes_more out x y first second room e =
-      let v : ℕ = 16 * digit_of (get_or l (2 * i) 0) + digit_of (get_or l (2 * i + 1) 0) in
-      let is : 16 * x + y ≡ v = omega (arith, first, second) in
+      let v : ℕ = 16 * value_of (get_or l (2 * i) 0) + value_of (get_or l (2 * i + 1) 0) in
+      let is : 16 * x + y ≡ v = rw (first, second) refl in
       let left : List ℕ = bytes_of (drop (2 * (i + 1)) l) in
-      ap (λ (w : ℕ). take (i + 1) (set out i w) ++ left) is
+      ap (λ (w : ℕ). take (i + 1) (slice_set out i w) ++ left) is
       ∙ ap (λ (z : List ℕ). z ++ left) (one_more out i v room)
       ∙ append_assoc (take i out) (v ∷ []) left
       ∙ ap (λ (z : List ℕ). take i out ++ z) (sym (ap bytes_of two_more))
@@ -68,24 +51,14 @@ end_hex (a ∷ []) h true p q = absurd (omega (arith, p refl))
 end_hex (a ∷ []) h false p q = refl
 end_hex (a ∷ b ∷ l) h t p q = absurd (omega arith)
 
-pub reads_more :
-    (n : ℕ) (l : List ℕ) (i d r : ℕ)
-    → i < length l
-    → d ≡ digit_of (get_or l i 0)
-    → r ≡ longer_by n d
-    → reads n (drop i l) ≡ reads r (drop (i + 1) l)
+pub reads_more : (n : ℕ) (l : List ℕ) (i : ℕ) → i < length l → reads n (drop i l) ≡ option_and_then (λ m. reads m (drop (i + 1) l)) (longer_with n (get_or l i 0))
 unfolding reads
-reads_more n l i d r there e f =
-    ap (reads n) (next_cons l i 0 there)
-    ∙ ap (λ (x : ℕ). reads (longer_by n x) (drop (i + 1) l)) (sym e)
-    ∙ ap (λ (x : ℕ). reads x (drop (i + 1) l)) (sym f)
+reads_more n l i there = ap (reads n) (next_cons l i 0 there)
 
-pub number_none : (l : List ℕ) → length l ≡ 0 → number_of l ≡ none
-unfolding number_of
-number_none [] h = refl
-number_none (b ∷ l) h = absurd (omega arith)
+pub reads_all : (n : ℕ) (l : List ℕ) (i : ℕ) → length l ≤ i → reads n (drop i l) ≡ Some n
+unfolding reads
+reads_all n l i h = ap (reads n) (drop_of_length-le l {i = i} h)
 
 pub number_reads : (l : List ℕ) → 0 < length l → number_of l ≡ reads 0 l
-unfolding number_of
 number_reads [] h = absurd (omega arith)
 number_reads (b ∷ l) h = refl

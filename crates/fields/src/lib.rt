@@ -1,24 +1,16 @@
 // The fields of a line, each after a space: bytes in lower-case hex, and numbers below 65,536 in decimal, one or
 // a list with a comma between two. A field of bytes or a list that holds none is `-`.
-//
-// All fields of a line are decoded into two areas, one of bytes and one of cells. In `ends` stands how far each is filled
-// before a field: at k the area of bytes before field k, at PLACES + k that of cells. The bytes of any line find room, since
-// each takes two digits.
-//
-// A function that decodes is told how far the area is filled, and answers how far it is filled then, or BAD. Of BAD, or
-// of a full area, comes BAD: so it need be looked at only once, behind a field.
 #![tactic(auto)]
 
-ghost use Rattle.std.specs.Prelude.{◌≤◌, ◌<◌};
+ghost use Rattle.std.specs.Prelude.{◌≡◌, ◌≤◌, ◌<◌, length, take, IfSome};
+ghost use Rattle.digits.specs.Digits.{bytes_of};
 
-pub use digits::{OVER, number_of};
-use parts::scan;
-use text_lines::input;
+use digits::number_of;
 
 // The longest line, in bytes.
-pub const LINE: usize = input::LINE;
+pub const LINE: usize = text_lines::LINE;
 
-// What the area of bytes holds.
+// What the area of bytes holds: the bytes of any line find room, since each takes two digits.
 pub const BYTES: usize = LINE / 2;
 
 // What the area of cells holds: the lists of a line have no more numbers together.
@@ -29,164 +21,152 @@ pub const FIELDS: usize = 9;
 
 const PLACES: usize = FIELDS + 1;
 
-pub const ENDS: usize = 2 * PLACES;
-
-pub const BAD: usize = usize::MAX;
-
-// Decodes the fields behind the first word of a line, those that `shape` names, a letter each: b for bytes, l for a list,
-// n for a number. False where the line has others, or more than an area holds, and where line or shape is too long.
-pub fn read(
-    line: &[u8],
-    shape: &[u8],
-    cells: &mut [u16; CELLS],
-    bytes: &mut [u8; BYTES],
-    ends: &mut [usize; ENDS],
-) -> bool {
-    if LINE < line.len() {
-        return false;
-    }
-    if FIELDS < shape.len() {
-        return false;
-    }
-    ends[0] = 0;
-    ends[PLACES] = 0;
-    let mut at = scan::find(line, 0, line.len(), b' ');
-    let mut k = 0;
-    while k < shape.len() {
-        at = field(line, at, shape[k], k, cells, bytes, ends);
-        k += 1;
-    }
-    at == line.len()
+#[derive(Clone, Copy)]
+pub enum Kind {
+    Bytes,
+    List,
+    Number,
 }
 
-// Decodes field k, which starts behind the space at `at`, and answers where it ends, or BAD.
-fn field(
-    line: &[u8],
-    at: usize,
-    kind: u8,
-    k: usize,
-    cells: &mut [u16; CELLS],
-    bytes: &mut [u8; BYTES],
-    ends: &mut [usize; ENDS],
-) -> usize
-    requires { k < 9 }
+// How far the two areas are filled.
+#[derive(Clone, Copy, Default)]
+struct Filled {
+    bytes: usize,
+    cells: usize,
+}
+
+// All fields of a line, decoded into an area of bytes and one of cells. Both are lent, since a struct that holds areas
+// so long would be copied where it is made.
+#[derive(Drop)]
+pub struct Fields<'a> {
+    bytes: &'a mut [u8; BYTES],
+    cells: &'a mut [u16; CELLS],
+    // How far the areas are filled before each field, and behind the last.
+    ends: [Filled; PLACES],
+}
+
+impl<'a> Fields<'a> {
+    pub fn new(bytes: &'a mut [u8; BYTES], cells: &'a mut [u16; CELLS]) -> Self {
+        Fields {
+            bytes,
+            cells,
+            ends: [Filled::default(); PLACES],
+        }
+    }
+
+    // Decodes the fields behind the first word of a line. None where it has others than those of the shape, or more than
+    // an area holds, and where line or shape is too long.
+    pub fn read(&mut self, line: &[u8], shape: &[Kind]) -> Option<()> {
+        if LINE < line.len() || FIELDS < shape.len() {
+            return None;
+        }
+        self.ends = [Filled::default(); PLACES];
+        let mut words = line.split(|b| *b == b' ');
+        words.next()?;
+        for (k, kind) in shape.iter().enumerate() {
+            let from = self.ends[k];
+            self.ends[k + 1] = self.decode(words.next()?, *kind, from)?;
+        }
+        if words.next().is_some() {
+            return None;
+        }
+        Some(())
+    }
+
+    // Puts a field behind what the areas hold.
+    fn decode(&mut self, text: &[u8], kind: Kind, from: Filled) -> Option<Filled> {
+        match kind {
+            Kind::Bytes => {
+                let n = hex(text, self.bytes.get_mut(from.bytes..)?)?;
+                Some(Filled {
+                    bytes: from.bytes + n,
+                    ..from
+                })
+            }
+            Kind::List => {
+                let n = list(text, self.cells.get_mut(from.cells..)?)?;
+                Some(Filled {
+                    cells: from.cells + n,
+                    ..from
+                })
+            }
+            Kind::Number => {
+                *self.cells.get_mut(from.cells)? = number_of(text)?;
+                Some(Filled {
+                    cells: from.cells + 1,
+                    ..from
+                })
+            }
+        }
+    }
+
+    // The bytes of field k.
+    pub fn text(&self, k: usize) -> &[u8] {
+        parts::part(
+            self.bytes,
+            self.end(k).bytes,
+            self.end(k.saturating_add(1)).bytes,
+        )
+    }
+
+    // The numbers of field k, a list.
+    pub fn column(&self, k: usize) -> &[u16] {
+        parts::part(
+            self.cells,
+            self.end(k).cells,
+            self.end(k.saturating_add(1)).cells,
+        )
+    }
+
+    // Field k, a number, as it stands in its cell.
+    pub fn cell(&self, k: usize) -> u16 {
+        self.cells.get(self.end(k).cells).copied().unwrap_or(0)
+    }
+
+    // Field k, a number.
+    pub fn number(&self, k: usize) -> usize
+        ensures { result ≤ 65535 }
+    {
+        usize::from(self.cell(k))
+    }
+
+    // How far the areas are filled before field k.
+    fn end(&self, k: usize) -> Filled {
+        self.ends.get(k).copied().unwrap_or_default()
+    }
+}
+
+// Puts bytes in hex, or none, at the start of the area, and answers how many.
+#[tactic(auto, unfolding(digits::specs::Digits::bytes_of))]
+pub fn hex(text: &[u8], area: &mut [u8]) -> Option<usize>
+    ensures within { IfSome result (λ n. n ≤ length area.new) }
+    ensures bytes { IfSome result (λ n. take n area.new ≡ bytes_of text.now) }
 {
-    if line.len() <= at {
-        return BAD;
-    }
-    let start = at + 1;
-    let end = scan::find(line, start, line.len(), b' ');
-    let text = &line[start..end];
-    let to = bytes_end(text, kind, bytes, place(ends, 0, k));
-    let last = cells_end(text, kind, cells, place(ends, PLACES, k));
-    if filled(ends, k, to, last) { end } else { BAD }
-}
-
-// Notes how far the areas are filled behind field k. False where one is too small, or the field is not of its kind.
-fn filled(ends: &mut [usize; ENDS], k: usize, to: usize, last: usize) -> bool
-    requires { k < 9 }
-{
-    ends[k + 1] = to;
-    ends[PLACES + k + 1] = last;
-    to != BAD && last != BAD
-}
-
-fn bytes_end(text: &[u8], kind: u8, area: &mut [u8; BYTES], from: usize) -> usize {
-    if kind == b'b' {
-        octets(text, area, from)
-    } else {
-        from
-    }
-}
-
-fn cells_end(text: &[u8], kind: u8, area: &mut [u16; CELLS], from: usize) -> usize {
-    match kind {
-        b'n' => one(text, area, from),
-        b'l' => list(text, area, from),
-        _ => from,
-    }
-}
-
-// Whether a field holds none.
-fn none(text: &[u8]) -> bool {
-    check::same(text, b"-")
-}
-
-// Bytes in hex, or none.
-pub fn octets(text: &[u8], area: &mut [u8], from: usize) -> usize {
-    if none(text) {
-        return from;
-    }
-    if text.len() == 0 || area.len() < from {
-        return BAD;
+    if text == b"-".as_slice() {
+        return Some(0);
     }
     let n = text.len() / 2;
-    if area.len() - from < text.len() - n {
-        return BAD;
+    if text.is_empty() || area.len() < text.len() - n {
+        return None;
     }
-    if digits::decoded(text, &mut area[from..]) {
-        from + n
+    if digits::decoded(text, area) {
+        Some(n)
     } else {
-        BAD
+        None
     }
 }
 
-fn list(text: &[u8], area: &mut [u16; CELLS], from: usize) -> usize {
-    if none(text) {
-        return from;
-    }
-    let mut to = from;
-    let mut at = 0;
-    while at < text.len() {
-        let end = scan::find(text, at, text.len(), b',');
-        to = one(&text[at..end], area, to);
-        if end == text.len() {
-            return to;
-        }
-        at = end + 1;
-    }
-    BAD
-}
-
-// Puts the number that a word is into the area.
-pub fn one(word: &[u8], area: &mut [u16; CELLS], to: usize) -> usize {
-    let value = number_of(word);
-    if OVER <= value {
-        return BAD;
-    }
-    if CELLS <= to {
-        return BAD;
-    }
-    area[to] = value as u16;
-    to + 1
-}
-
-// The bytes of field k.
-pub fn text<'a>(bytes: &'a [u8; BYTES], ends: &[usize; ENDS], k: usize) -> &'a [u8] {
-    parts::bytes(bytes, place(ends, 0, k), place(ends, 1, k))
-}
-
-// The numbers of field k, a list.
-pub fn column<'a>(cells: &'a [u16; CELLS], ends: &[usize; ENDS], k: usize) -> &'a [u16] {
-    parts::cells(cells, place(ends, PLACES, k), place(ends, PLACES + 1, k))
-}
-
-// Field k, a number, as it stands in its cell.
-pub fn cell(cells: &[u16; CELLS], ends: &[usize; ENDS], k: usize) -> u16 {
-    let at = place(ends, PLACES, k);
-    if at < CELLS { cells[at] } else { 0 }
-}
-
-// Field k, a number.
-pub fn number(cells: &[u16; CELLS], ends: &[usize; ENDS], k: usize) -> usize
-    ensures { result ≤ 65535 }
+// Puts numbers with a comma between two, or none, at the start of the area, and answers how many.
+pub fn list(text: &[u8], area: &mut [u16]) -> Option<usize>
+    ensures { IfSome result (λ n. n ≤ length area.new) }
 {
-    cell(cells, ends, k) as usize
-}
-
-// What stands in `ends` at field k, counted from `first`.
-fn place(ends: &[usize; ENDS], first: usize, k: usize) -> usize
-    requires { first ≤ 11 }
-{
-    if k < FIELDS { ends[first + k] } else { 0 }
+    if text == b"-".as_slice() {
+        return Some(0);
+    }
+    let mut n = 0;
+    for word in text.split(|b| *b == b',') {
+        *area.get_mut(n)? = number_of(word)?;
+        n += 1;
+    }
+    Some(n)
 }

@@ -1,72 +1,47 @@
 // Parts of an area of bytes or of cells.
 #![tactic(auto)]
 
-pub mod scan;
-pub mod words;
-
-ghost use Rattle.std.specs.Prelude.{◌≡◌, ◌≤◌, ◌<◌, length};
-ghost use Rattle.io.specs.Counts.{IsPrefixLen};
+ghost use Rattle.std.specs.Prelude.{◌≡◌, ◌==◌, ◌≤◌, ◌<◌, ◌⊎◌, length, slice_range, position, IfSome};
 ghost use Rattle.parts.specs.Sixteen.{Sixteen};
 
 // From one place up to another; nothing where those are not in order, or past the area's end.
-pub fn bytes(area: &[u8], from: usize, to: usize) -> &[u8] {
-    if from <= to {
-        if to <= area.len() {
-            return &area[from..to];
-        }
-    }
-    &area[..0]
+pub fn part<T>(area: &[T], from: usize, to: usize) -> &[T]
+    ensures inside { from ≤ to → to ≤ length area.now → result.now ≡ slice_range area.now from to }
+    ensures outside { (to < from) ⊎ (length area.now < to) → length result.now ≡ 0 }
+{
+    area.get(from..to).unwrap_or(&[])
 }
 
-pub fn cells(area: &[u16], from: usize, to: usize) -> &[u16] {
-    if from <= to {
-        if to <= area.len() {
-            return &area[from..to];
-        }
-    }
-    &area[..0]
+// Where a byte stands first.
+pub fn find(text: &[u8], b: u8) -> Option<usize>
+    ensures first { result ≡ position (λ x. x == b) text.now }
+    ensures within { IfSome result (λ at. at < length text.now) }
+{
+    text.iter().position(|x| *x == b)
 }
 
 // The number in a cell, 0 past the last.
 pub fn cell(area: &[u16], i: usize) -> usize
     ensures { result < 65536 }
 {
-    if i < area.len() { wide(area[i]) } else { 0 }
+    area.get(i).copied().map_or(0, usize::from)
 }
 
-fn wide(cell: u16) -> usize
-    ensures { result < 65536 }
+// The k-th number of 16 bits, the more significant byte first; none past the last whole one.
+pub fn sixteen(area: &[u8], k: usize) -> Option<u16>
+    ensures { Sixteen area.now k result }
 {
-    cell as usize
-}
-
-// The k-th number of 16 bits, the more significant byte first; 0 past the last whole one.
-pub fn sixteen(area: &[u8], k: usize) -> usize
-    ensures { Sixteen area.now k result × (result < 65536) }
-{
-    if k < area.len() / 2 {
-        return octet(area[2 * k]) * 256 + octet(area[2 * k + 1]);
+    if area.len() / 2 <= k {
+        return None;
     }
-    0
-}
-
-fn octet(b: u8) -> usize
-    ensures { (result ≡ b) × (result < 256) }
-{
-    b as usize
+    Some(u16::from_be_bytes([area[2 * k], area[2 * k + 1]]))
 }
 
 // Where a part of n bytes ends that starts at `at`: not behind the area's end.
 pub fn end(area: &[u8], at: usize, n: usize) -> usize
     ensures { result ≤ length area.now }
 {
-    if area.len() <= at {
-        return area.len();
-    }
-    if area.len() - at < n {
-        return area.len();
-    }
-    at + n
+    at.saturating_add(n).min(area.len())
 }
 
 // Where the value of a row starts in the area that has them end to end.
@@ -74,21 +49,8 @@ pub fn start(area: &[u8], lengths: &[u16], row: usize) -> usize
     ensures { result ≤ length area.now }
 {
     let mut at = 0;
-    let mut i = 0;
-    while i < row {
-        at = end(area, at, cell(lengths, i));
-        i += 1;
+    for length in lengths.iter().take(row) {
+        at = end(area, at, usize::from(*length));
     }
     at
-}
-
-// How many there are at the start of the area: as many as asked for, or all.
-pub fn byte_room(area: &[u8], asked: usize) -> usize
-    ensures { IsPrefixLen result area.now }
-{
-    if asked < area.len() {
-        asked
-    } else {
-        area.len()
-    }
 }

@@ -1,5 +1,7 @@
 // Lines of text, as they are read.
 #![tactic(auto)]
 
-pub mod input;
+mod lines;
 pub mod reading;
+
+pub use lines::{LINE, Line, Lines, ROOM};

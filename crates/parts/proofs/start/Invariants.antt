@@ -1,8 +1,5 @@
-use Rattle.std.proofs.Common.{◌-◌, ◌≤◌, length}
+use Rattle.std.proofs.Common.{◌≤◌, length}
 use Rattle.parts.proofs.start.Given as goal
 
-abbrev pub invariant-loop-i : goal.invariant-loop-i
-invariant-loop-i l = l.at ≤ length l.area
-
-abbrev pub decreases-loop-i : goal.decreases-loop-i
-decreases-loop-i l = l.row - l.i
+abbrev pub invariant-loop-length : goal.invariant-loop-length
+invariant-loop-length l = l.at ≤ length l.area
