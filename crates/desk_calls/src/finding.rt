@@ -1,26 +1,29 @@
 // The lookup in two records.
-use crate::answer;
+ghost use Rattle.std.specs.Prelude.{◌≤◌};
+
+use fields::Fields;
+use pages::Hex;
+use std::io;
+use std::io::Write;
+use tables::table::Table;
 
 // find TYPE, and of each record TYPES COUNTS LENGTHS VALUES: the answer has the record that holds it and the value
-pub fn find(
-    rt: &impl Print,
-    cells: &[u16; fields::CELLS],
-    bytes: &[u8; fields::BYTES],
-    ends: &[usize; fields::ENDS],
-    text: &mut [u8; pages::BYTES],
-    from: usize,
-) -> usize {
-    let kind = fields::cell(cells, ends, 0);
-    let t1 = fields::column(cells, ends, 1);
-    let c1 = fields::column(cells, ends, 2);
-    let l1 = fields::column(cells, ends, 3);
-    let v1 = fields::text(bytes, ends, 4);
-    let t2 = fields::column(cells, ends, 5);
-    let c2 = fields::column(cells, ends, 6);
-    let l2 = fields::column(cells, ends, 7);
-    let v2 = fields::text(bytes, ends, 8);
-    let holder = lookup::holder(kind, t1, c1, l1, v1, t2, c2, l2, v2);
-    let value = lookup::find(kind, t1, c1, l1, v1, t2, c2, l2, v2);
-    let at = pages::decimal(rt, text, from, holder);
-    answer::bytes(rt, text, at, value)
+pub fn find(page: &mut impl Write, fields: &Fields<'_>) -> io::Result<()> {
+    let kind = fields.cell(0);
+    let first = table(fields, 1);
+    let second = table(fields, 5);
+    let holder = lookup::holder(kind, first, second);
+    writeln!(page, "{holder} {}", Hex(lookup::find(kind, first, second)))
+}
+
+// The table whose columns and values are the four fields from k on.
+pub fn table<'a>(fields: &'a Fields<'_>, k: usize) -> Table<'a>
+    requires { k ≤ 5 }
+{
+    Table {
+        types: fields.column(k),
+        counts: fields.column(k + 1),
+        lengths: fields.column(k + 2),
+        values: fields.text(k + 3),
+    }
 }

@@ -1,72 +1,42 @@
 // The calls that read a slip: check and unpack.
-use crate::{answer, room};
-use answers::Answer;
+use crate::answer::Head;
+use crate::room;
+use fields::Fields;
+use pages::{Hex, List};
+use std::io;
+use std::io::Write;
 
 // check SLIP
-pub fn check(
-    rt: &impl Print,
-    bytes: &[u8; fields::BYTES],
-    ends: &[usize; fields::ENDS],
-    text: &mut [u8; pages::BYTES],
-    at: usize,
-) -> usize {
-    let a = slips::check::check(fields::text(bytes, ends, 0));
-    let to = answer::head(rt, text, at, a);
-    pages::byte(rt, text, to, b'\n')
+pub fn check(page: &mut impl Write, fields: &Fields<'_>) -> io::Result<()> {
+    let a = slips::check::check(fields.text(0));
+    writeln!(page, "{}", Head(&a))
 }
 
 // unpack SLIP ROOM ROOM ROOM ROOM: cells of types, counts and lengths, and bytes of values
-pub fn unpack(
-    rt: &impl Print,
-    cells: &[u16; fields::CELLS],
-    bytes: &[u8; fields::BYTES],
-    ends: &[usize; fields::ENDS],
-    text: &mut [u8; pages::BYTES],
-    at: usize,
-) -> usize {
+pub fn unpack(page: &mut impl Write, fields: &Fields<'_>) -> io::Result<()> {
     let mut types = [room::FILL_CELL; room::MOST];
     let mut counts = [room::FILL_CELL; room::MOST];
     let mut lengths = [room::FILL_CELL; room::MOST];
     let mut values = [room::FILL; room::MOST];
     unpacked(
-        rt,
-        fields::text(bytes, ends, 0),
-        room::cells(&mut types, fields::number(cells, ends, 1)),
-        room::cells(&mut counts, fields::number(cells, ends, 2)),
-        room::cells(&mut lengths, fields::number(cells, ends, 3)),
-        room::bytes(&mut values, fields::number(cells, ends, 4)),
-        text,
-        at,
+        page,
+        fields.text(0),
+        room::first(&mut types, fields.number(1)),
+        room::first(&mut counts, fields.number(2)),
+        room::first(&mut lengths, fields.number(3)),
+        room::first(&mut values, fields.number(4)),
     )
 }
 
 fn unpacked(
-    rt: &impl Print,
+    page: &mut impl Write,
     slip: &[u8],
     types: &mut [u16],
     counts: &mut [u16],
     lengths: &mut [u16],
     values: &mut [u8],
-    text: &mut [u8; pages::BYTES],
-    at: usize,
-) -> usize {
+) -> io::Result<()> {
     let a = unpack::unpack(slip, types, counts, lengths, values);
-    told(rt, a, types, counts, lengths, values, text, at)
-}
-
-fn told(
-    rt: &impl Print,
-    a: Answer,
-    types: &[u16],
-    counts: &[u16],
-    lengths: &[u16],
-    values: &[u8],
-    text: &mut [u8; pages::BYTES],
-    from: usize,
-) -> usize {
-    let mut at = answer::head(rt, text, from, a);
-    at = answer::column(rt, text, at, types);
-    at = answer::column(rt, text, at, counts);
-    at = answer::column(rt, text, at, lengths);
-    answer::bytes(rt, text, at, values)
+    write!(page, "{} {} {} ", Head(&a), List(types), List(counts))?;
+    writeln!(page, "{} {}", List(lengths), Hex(values))
 }

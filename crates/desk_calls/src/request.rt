@@ -1,33 +1,33 @@
 // A request: the word of a call, and after it the fields that the call asks for.
 use crate::call::Call;
-use crate::{answer, call, finding, forms, making, showing};
+use crate::{finding, forms, making, showing};
+use fields::Fields;
+use std::io;
+use std::io::Write;
 
-// Answers a line behind the `at` bytes of the text.
-pub fn answered(rt: &impl Print, line: &[u8], text: &mut [u8; pages::BYTES], at: usize) -> usize {
-    let mut cells = [0u16; fields::CELLS];
-    let mut bytes = [0u8; fields::BYTES];
-    let mut ends = [0usize; fields::ENDS];
-    let call = call::asked(line, &mut cells, &mut bytes, &mut ends);
-    answer_to(rt, call, &cells, &bytes, &ends, text, at)
+// Answers a line, whose fields are decoded for it.
+pub fn answer(page: &mut impl Write, line: &[u8], fields: &mut Fields<'_>) -> io::Result<()> {
+    match asked(line, fields) {
+        Some(call) => answer_to(page, call, fields),
+        None => page.write_all(b"bad request\n"),
+    }
 }
 
-fn answer_to(
-    rt: &impl Print,
-    call: usize,
-    cells: &[u16; fields::CELLS],
-    bytes: &[u8; fields::BYTES],
-    ends: &[usize; fields::ENDS],
-    text: &mut [u8; pages::BYTES],
-    at: usize,
-) -> usize {
+fn asked(line: &[u8], fields: &mut Fields<'_>) -> Option<Call> {
+    let call = Call::named(line)?;
+    fields.read(line, call.shape())?;
+    Some(call)
+}
+
+fn answer_to(page: &mut impl Write, call: Call, fields: &Fields<'_>) -> io::Result<()> {
     match call {
-        Call::CHECK => forms::check(rt, bytes, ends, text, at),
-        Call::PACK | Call::PRUNE | Call::JOIN | Call::COMPOSE => {
-            making::made(rt, call, cells, bytes, ends, text, at)
-        }
-        Call::UNPACK => forms::unpack(rt, cells, bytes, ends, text, at),
-        Call::FIND => finding::find(rt, cells, bytes, ends, text, at),
-        Call::SHOW => showing::show(rt, bytes, ends, text, at),
-        _ => answer::bad(rt, text, at),
+        Call::Check => forms::check(page, fields),
+        Call::Pack => making::pack(page, fields),
+        Call::Unpack => forms::unpack(page, fields),
+        Call::Prune => making::prune(page, fields),
+        Call::Join => making::join(page, fields),
+        Call::Find => finding::find(page, fields),
+        Call::Compose => making::compose(page, fields),
+        Call::Show => showing::show(page, fields),
     }
 }

@@ -6,13 +6,8 @@ pub const FILL: u8 = 165;
 
 pub const FILL_CELL: u16 = 165;
 
-// The first n cells of an area, or all of it.
-pub fn cells(area: &mut [u16], n: usize) -> &mut [u16] {
-    if n < area.len() { &mut area[..n] } else { area }
-}
-
-// The first n bytes of an area, or all of it.
-pub fn bytes(area: &mut [u8], n: usize) -> &mut [u8] {
-    let to = parts::byte_room(area, n);
+// The first n of an area, or all of it.
+pub fn first<T>(area: &mut [T], n: usize) -> &mut [T] {
+    let to = n.min(area.len());
     &mut area[..to]
 }

@@ -1,15 +1,14 @@
 // What the program `show` prints.
-use crate::answer;
+use fields::Fields;
+use pages::{BYTES, Hex};
+use std::io;
+use std::io::{Cursor, Write};
 
 // show SLIP: the answer is the text, as bytes
-pub fn show(
-    rt: &impl Print,
-    bytes: &[u8; fields::BYTES],
-    ends: &[usize; fields::ENDS],
-    text: &mut [u8; pages::BYTES],
-    at: usize,
-) -> usize {
-    let mut shown = [0u8; pages::BYTES];
-    let n = show_text::slip(rt, &mut shown, 0, fields::text(bytes, ends, 0));
-    answer::line(rt, text, at, pages::front(&shown, n))
+pub fn show(page: &mut impl Write, fields: &Fields<'_>) -> io::Result<()> {
+    let mut text = [0u8; BYTES];
+    let mut shown = Cursor::new(text.as_mut_slice());
+    show_text::slip(&mut shown, fields.text(0))?;
+    let n = shown.position() as usize;
+    writeln!(page, "{}", Hex(parts::part(&text, 0, n)))
 }

@@ -1,21 +1,28 @@
 // Reads a slip from standard input and prints what it discloses, or its refusal.
 #![tactic(auto)]
 
+use pages::Page;
+use std::io;
+use std::io::Write;
 use tables::limits::Slip;
 use text_lines::reading;
-use text_lines::reading::Got;
 
 // One byte more than a slip may have: a longer input is refused all the same.
 const ROOM: usize = Slip::MAX_BYTES + 1;
 
 fn main(rt: HostRuntime) {
-    let mut slip = [0u8; ROOM];
-    let got = reading::all(&mut rt.reader(), &mut slip);
-    let Got::Bytes(n) = got else {
+    let mut area = [0u8; ROOM];
+    let Ok(n) = reading::read_all(&mut rt.reader(), &mut area) else {
         pages::say(&rt, b"show", b"cannot read");
         return;
     };
-    let mut text = [0u8; pages::BYTES];
-    let at = show_text::slip(&rt, &mut text, 0, parts::bytes(&slip, 0, n));
-    pages::close(&rt, &text, at, b"show");
+    let mut page = Page::new(io::writer(&rt));
+    if print(&mut page, &area[..n]).is_err() {
+        pages::say(&rt, b"show", b"cannot write");
+    }
+}
+
+fn print(page: &mut impl Write, slip: &[u8]) -> io::Result<()> {
+    show_text::slip(page, slip)?;
+    page.flush()
 }
