@@ -1,71 +1,66 @@
 // desk check: a line a file.
+use crate::verdict;
 use desk_files::messages::Said;
 use desk_files::system::System;
 use desk_files::{files, messages, refusals};
-use outcomes::Refusal;
-use pages::Complaints;
+use pages::Page;
 use std::env::Env;
-use std::num;
-
-// How many bytes stand on the page, and how many files were refused.
-#[derive(Drop)]
-struct Told {
-    to: usize,
-    refused: usize,
-}
+use std::io;
+use std::io::Write;
 
 // A line for each argument that names a file, and behind them how many were refused.
-pub fn check(rt: &impl System, count: usize) {
-    let mut text = [0u8; pages::BYTES];
-    let mut told = Told { to: 0, refused: 0 };
-    let mut i = 2;
-    while i < count {
-        told = file(rt, &mut text, told, i);
-        i += 1;
+pub fn check(rt: &impl System, count: usize) -> Result<(), Said> {
+    let mut page = Page::new(io::writer(rt));
+    let mut refused = 0;
+    for i in 2..count {
+        match refuses(rt, &mut page, i) {
+            Ok(true) => refused += 1,
+            Ok(false) => (),
+            Err(e) => {
+                pass_over(rt, i + 1, count);
+                return Err(Said::from(e));
+            }
+        }
     }
-    ended(rt, &text, told.to, told.refused, i - 2);
+    page.flush()?;
+    if refused == 0 {
+        return Ok(());
+    }
+    let files = count.saturating_sub(2);
+    Err(Said::SomeRefused { refused, files })
 }
 
-fn ended(
-    rt: &(impl Print + Env + Complaints),
-    text: &[u8; pages::BYTES],
-    to: usize,
-    refused: usize,
-    files: usize,
-) {
-    if messages::close(rt, text, to) {
-        if 0 < refused {
-            messages::say(rt, Said::SOME_REFUSED, [refused, files, 0], 0);
+// Behind a failed write the other files are read all the same: each that cannot be is said.
+fn pass_over(rt: &impl System, from: usize, count: usize) {
+    for i in from..count {
+        let mut space = [0u8; files::ROOM];
+        if let Err(said) = files::read(rt, i, &mut space) {
+            messages::say(rt, said);
         }
     }
 }
 
-fn file(rt: &impl System, text: &mut [u8; pages::BYTES], told: Told, i: usize) -> Told {
+// Whether a file is refused. One that cannot be read is passed over, and that is said.
+fn refuses(rt: &impl System, page: &mut impl Write, i: usize) -> io::Result<bool> {
     let mut space = [0u8; files::ROOM];
-    let n = files::read(rt, i, &mut space);
-    if n == files::UNREAD {
-        return told;
+    match files::read(rt, i, &mut space) {
+        Ok(slip) => checked(rt, page, i, slip),
+        Err(said) => {
+            messages::say(rt, said);
+            Ok(false)
+        }
     }
-    checked(rt, text, told.to, told.refused, i, files::front(&space, n))
 }
 
-fn checked(
-    rt: &(impl Print + Env),
-    text: &mut [u8; pages::BYTES],
-    from: usize,
-    refused: usize,
-    i: usize,
-    slip: &[u8],
-) -> Told {
-    let a = slips::check::check(slip);
-    if a.number == Refusal::ACCEPTED {
-        let label = a.label;
-        let to = refusals::accepted(rt, text, from, i, a.length, a.blocks, &label);
-        return Told { to, refused };
-    }
-    let to = refusals::refused(rt, text, from, i, a.number, a.place);
-    Told {
-        to,
-        refused: num::wrapping_add_usize(refused, 1),
+fn checked(rt: &impl Env, page: &mut impl Write, i: usize, slip: &[u8]) -> io::Result<bool> {
+    match verdict::of(slips::check::check(slip)) {
+        Ok(a) => {
+            refusals::accepted_line(rt, page, i, a.length, a.blocks, &a.label)?;
+            Ok(false)
+        }
+        Err(refused) => {
+            refusals::refused_line(rt, page, i, refused)?;
+            Ok(true)
+        }
     }
 }

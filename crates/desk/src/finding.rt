@@ -1,25 +1,45 @@
 // desk find: the value of a type in the first of the slips that has one.
-use crate::forms;
-use desk_files::command::Command;
+use crate::table::Areas;
+use desk_files::messages::Said;
 use desk_files::system::System;
-use desk_files::{arguments, messages};
+use desk_files::{arguments, files};
+use pages::Page;
+use row_lines::writing;
+use std::io;
+use std::io::Write;
+use tables::table::Table;
 
-pub fn find(rt: &impl System, count: usize) {
-    let mut list = [0u16; fields::CELLS];
-    if arguments::number(rt, 2, &mut list, 0) != fields::BAD {
-        find_type(rt, &list, count);
+// The search ends with the first file that has the type, or that is no slip.
+pub fn find(rt: &impl System, count: usize) -> Result<(), Said> {
+    let kind = arguments::number(rt, 2)?;
+    for i in 3..count {
+        if found(rt, kind, i)? {
+            return Ok(());
+        }
     }
+    Ok(rt.write_all(b"none\n")?)
 }
 
-// The type is the list's first number. The search ends with the first file that has it, or that is no slip.
-fn find_type(rt: &impl System, list: &[u16; fields::CELLS], count: usize) {
-    let kind = parts::cell(list, 0);
-    let mut i = 3;
-    while i < count {
-        if forms::of_file(rt, Command::FIND, kind, i) {
-            return;
-        }
-        i += 1;
+// Whether a file has the type: then its value is written out.
+fn found(rt: &impl System, kind: u16, i: usize) -> Result<bool, Said> {
+    let mut space = [0u8; files::ROOM];
+    let slip = files::read(rt, i, &mut space)?;
+    let mut areas = Areas::new();
+    let Some(value) = value_of(kind, areas.unpack(slip, i)?) else {
+        return Ok(false);
+    };
+    let mut page = Page::new(io::writer(rt));
+    arguments::name(rt, &mut page, i)?;
+    write!(page, " ")?;
+    writing::pair(&mut page, kind, value)?;
+    page.flush()?;
+    Ok(true)
+}
+
+// The lookup's second record is the same one.
+fn value_of<'a>(kind: u16, table: Table<'a>) -> Option<&'a [u8]> {
+    if lookup::holder(kind, table, table) == 0 {
+        return None;
     }
-    messages::print(rt, b"none\n");
+    Some(lookup::find(kind, table, table))
 }

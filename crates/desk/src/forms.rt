@@ -1,87 +1,48 @@
-// desk unpack, desk pack and desk tree: what is made of a file. desk join and desk find begin with it too.
-use crate::{making, table};
-use desk_files::command::Command;
-use desk_files::messages::Said;
+// desk tree, desk unpack and desk pack: what is made of a file.
+use crate::table::Areas;
+use crate::{making, verdict};
+use desk_files::files;
+use desk_files::messages::{Objection, Said};
 use desk_files::system::System;
-use desk_files::{files, messages};
-use outcomes::Refusal;
-use pages::Complaints;
-use std::env::Env;
-use std::num;
-use table_text::faults::Fault;
+use pages::Page;
+use row_lines::writing;
+use std::io;
+use std::io::Write;
 use table_text::reading;
+use table_text::reading::Rows;
 use tables::limits::Slip;
 
-// What a command makes of the file of argument i. False where that is a search and the file has no value of the type.
-pub fn of_file(rt: &impl System, command: usize, kind: usize, i: usize) -> bool {
+pub fn tree(rt: &impl System) -> Result<(), Said> {
     let mut space = [0u8; files::ROOM];
-    let n = files::read(rt, i, &mut space);
-    if n == files::UNREAD {
-        return true;
-    }
-    formed(rt, command, kind, i, files::front(&space, n))
+    let slip = files::read(rt, 2, &mut space)?;
+    verdict::of_file(tree_text::draw(rt, slip), 2)?;
+    Ok(())
 }
 
-fn formed(rt: &impl System, command: usize, kind: usize, i: usize, bytes: &[u8]) -> bool {
-    match command {
-        Command::UNPACK | Command::FIND => return table::told(rt, kind, i, bytes),
-        Command::PACK => pack(rt, bytes),
-        Command::JOIN => making::join(rt, bytes),
-        _ => tree(rt, bytes),
-    }
-    true
+pub fn unpack(rt: &impl System) -> Result<(), Said> {
+    let mut space = [0u8; files::ROOM];
+    let slip = files::read(rt, 2, &mut space)?;
+    let mut areas = Areas::new();
+    let table = areas.unpack(slip, 2)?;
+    let mut page = Page::new(io::writer(rt));
+    writing::write(&mut page, table)?;
+    Ok(page.flush()?)
 }
 
-fn tree(rt: &(impl Print + Env + Complaints), slip: &[u8]) {
-    let a = tree_text::draw(rt, slip);
-    if a.number != Refusal::ACCEPTED {
-        messages::refused(rt, Said::DESK, 2, a.number, a.place, 0);
-    }
-}
-
-fn pack(rt: &(impl Print + Env + Complaints), text: &[u8]) {
+pub fn pack(rt: &impl System) -> Result<(), Said> {
+    let mut space = [0u8; files::ROOM];
+    let text = files::read(rt, 2, &mut space)?;
     if reading::BYTES < text.len() {
-        messages::say(rt, Said::TEXT_LONG, [0, 0, 0], 2);
-        return;
+        return Err(Said::OfFile(2, Objection::TextLong));
     }
-    let mut cells = [0u16; reading::CELLS];
-    let mut values = [0u8; fields::BYTES];
-    let t = reading::read(text, &mut cells, &mut values);
-    packed(rt, t.rows, t.used, t.fault, &cells, &values);
+    let mut rows = Rows::new();
+    rows.read(text)
+        .map_err(|no_row| Said::OfFile(2, Objection::NoRow(no_row)))?;
+    packed(rt, &rows)
 }
 
-// Packs the rows. Where there is a fault, the line behind them is no row.
-fn packed(
-    rt: &(impl Print + Env + Complaints),
-    rows: usize,
-    used: usize,
-    fault: usize,
-    cells: &[u16; reading::CELLS],
-    values: &[u8; fields::BYTES],
-) {
-    if fault == Fault::NONE {
-        table_packed(rt, rows, cells, parts::bytes(values, 0, used));
-        return;
-    }
-    let line = num::wrapping_add_usize(rows, 1);
-    messages::say(
-        rt,
-        num::wrapping_add_usize(Said::NO_ROW, fault),
-        [line, 0, 0],
-        2,
-    );
-}
-
-fn table_packed(
-    rt: &(impl Print + Env + Complaints),
-    rows: usize,
-    cells: &[u16; reading::CELLS],
-    values: &[u8],
-) {
+fn packed(rt: &impl System, rows: &Rows) -> Result<(), Said> {
     let mut out = [0u8; Slip::MAX_BYTES];
-    let types = reading::column(cells, 0, rows);
-    let counts = reading::column(cells, 1, rows);
-    let lengths = reading::column(cells, 2, rows);
-    let a = pack::pack(types, counts, lengths, values, &mut out);
-    making::put(rt, Said::DESK, 2, a, &out);
+    let a = pack::pack(rows.table(), &mut out);
+    making::put(rt, &out, verdict::of_file(a, 2)?)
 }

@@ -7,42 +7,50 @@ mod finding;
 mod forms;
 mod making;
 mod table;
+mod verdict;
 
 use desk_calls::session;
 use desk_files::command::Command;
+use desk_files::messages::Said;
 use desk_files::system::System;
-use desk_files::{arguments, command, messages};
+use desk_files::{arguments, messages};
 use std::env::Env;
 
 fn main(rt: HostRuntime) {
     let count = arguments::count(&rt);
-    run(&rt, asked(&rt, count), count);
+    if let Err(said) = run(&rt, count) {
+        messages::say(&rt, said);
+    }
 }
 
 // The command that the first word names.
-fn asked(rt: &impl Env, count: usize) -> usize {
+fn asked(rt: &impl Env, count: usize) -> Result<Command, Said> {
     if count < 2 {
-        return Command::MISSING;
+        return Err(Said::NoWord);
     }
     let mut space = [0u8; arguments::BYTES];
-    let n = arguments::put(rt, 1, &mut space);
-    command::named(&space[..n])
+    let command = Command::named(arguments::get(rt, 1, &mut space)).ok_or(Said::NoCommand(1))?;
+    if command.fits(count) {
+        Ok(command)
+    } else {
+        Err(Said::Usage(command))
+    }
 }
 
-fn run(rt: &impl System, command: usize, count: usize) {
-    if !command::fits(command, count) {
-        messages::say(rt, command, [0, 0, 0], 1);
-        return;
-    }
-    match command {
-        Command::CHECK => checking::check(rt, count),
-        Command::TREE..=Command::PACK | Command::JOIN => {
-            forms::of_file(rt, command, table::ALL, 2);
+fn run(rt: &impl System, count: usize) -> Result<(), Said> {
+    match asked(rt, count)? {
+        Command::Check => checking::check(rt, count),
+        Command::Tree => forms::tree(rt),
+        Command::Unpack => forms::unpack(rt),
+        Command::Pack => forms::pack(rt),
+        Command::Prune => making::prune(rt, count),
+        Command::Join => making::join(rt),
+        Command::Find => finding::find(rt, count),
+        Command::Calls => {
+            session::run(rt);
+            Ok(())
         }
-        Command::PRUNE => making::prune(rt, count),
-        Command::FIND => finding::find(rt, count),
-        Command::CALLS => session::run(rt),
-        Command::VERSION => messages::version(rt),
-        _ => messages::help(rt),
+        Command::Version => Ok(messages::version(rt)?),
+        Command::Help => Ok(messages::help(rt)?),
     }
 }

@@ -1,106 +1,87 @@
 // desk prune and desk join: a slip on standard output, or nothing there and the refusal on standard error.
+use crate::verdict;
 use answers::Answer;
-use desk_files::messages::Said;
+use desk_files::messages::{Objection, Said, Unlisted};
+use desk_files::refusals::Refused;
 use desk_files::system::System;
-use desk_files::{arguments, files, messages};
-use outcomes::Refusal;
-use pages::Complaints;
+use desk_files::{arguments, files};
+use outcomes::numbers::Refusal;
 use slips::header;
-use std::env::Env;
 use tables::limits::Slip;
 
-// Writes out a slip that was made of the file of argument i, or says how it was refused.
-pub fn put(
-    rt: &(impl Print + Env + Complaints),
-    head: usize,
-    i: usize,
-    a: Answer,
-    out: &[u8; Slip::MAX_BYTES],
-) {
-    if a.number != Refusal::ACCEPTED {
-        messages::refused(rt, head, i, a.number, a.place, a.second);
-        return;
-    }
-    messages::print(rt, parts::bytes(out, 0, a.length));
+// Writes out a slip that was made.
+pub fn put(rt: &impl Print, out: &[u8; Slip::MAX_BYTES], a: Answer) -> Result<(), Said> {
+    Ok(rt.write_all(parts::part(out, 0, a.length))?)
 }
 
-pub fn prune(rt: &impl System, count: usize) {
-    let mut list = [0u16; fields::CELLS];
-    let k = arguments::entries(rt, count, &mut list);
-    if k != fields::BAD {
-        prune_file(rt, &list, k);
-    }
-}
-
-fn prune_file(rt: &impl System, list: &[u16; fields::CELLS], k: usize) {
+pub fn prune(rt: &impl System, count: usize) -> Result<(), Said> {
+    let mut list = [0u16; arguments::ENTRIES];
+    let list = arguments::entries(rt, count, &mut list)?;
     let mut space = [0u8; files::ROOM];
-    let n = files::read(rt, 2, &mut space);
-    if n != files::UNREAD {
-        pruned(rt, files::front(&space, n), parts::cells(list, 0, k));
-    }
+    let slip = files::read(rt, 2, &mut space)?;
+    pruned(rt, slip, list)
 }
 
-fn pruned(rt: &(impl Print + Env + Complaints), slip: &[u8], list: &[u16]) {
+fn pruned(rt: &impl Print, slip: &[u8], list: &[u16]) -> Result<(), Said> {
     let mut out = [0u8; Slip::MAX_BYTES];
-    let a = prune::prune(slip, list, &mut out);
-    if a.number == Refusal::BAD_LIST {
-        unlisted(rt, slip, list, a.place);
-    } else {
-        put(rt, Said::DESK, 2, a, &out);
+    match verdict::of(prune::prune(slip, list, &mut out)) {
+        Ok(a) => put(rt, &out, a),
+        Err(refused) => Err(Said::OfFile(2, objection(slip, list, refused))),
     }
 }
 
-// Says what is wrong with the number at a place of the list.
-fn unlisted(rt: &(impl Print + Env + Complaints), slip: &[u8], list: &[u16], place: usize) {
+fn objection(slip: &[u8], list: &[u16], refused: Refused) -> Objection {
+    if refused.refusal != Refusal::BadList {
+        return Objection::Refused(refused);
+    }
+    let place = refused.place;
     let entry = parts::cell(list, place);
-    messages::say(
-        rt,
-        reason(slip, list, place, entry),
-        [Refusal::BAD_LIST, place, entry],
-        2,
-    );
+    Objection::Unlisted {
+        place,
+        entry,
+        unlisted: unlisted(slip, list, place, entry),
+    }
 }
 
-fn reason(slip: &[u8], list: &[u16], place: usize, entry: usize) -> usize {
-    let h = header::header_of(slip);
-    if h.count <= entry {
-        return Said::NO_ENTRY;
+// What is wrong with the number at a place of the list.
+fn unlisted(slip: &[u8], list: &[u16], place: usize, entry: usize) -> Unlisted {
+    if header::header_of(slip).unwrap_or(0) <= entry {
+        return Unlisted::NoEntry;
     }
     if rising(list, place, entry) {
-        Said::NO_INTERNAL
+        Unlisted::NoInternal
     } else {
-        Said::NOT_RISING
+        Unlisted::NotRising
     }
 }
 
 // Whether the number at a place is above the one before, if there is one.
 fn rising(list: &[u16], place: usize, entry: usize) -> bool {
-    if place == 0 {
-        return true;
-    }
-    parts::cell(list, place - 1) < entry
+    place == 0 || parts::cell(list, place - 1) < entry
 }
 
-// Joins a slip with the file of argument 3.
-pub fn join(rt: &impl System, first: &[u8]) {
+pub fn join(rt: &impl System) -> Result<(), Said> {
+    let mut first = [0u8; files::ROOM];
+    let first = files::read(rt, 2, &mut first)?;
     let mut second = [0u8; files::ROOM];
-    let n = files::read(rt, 3, &mut second);
-    if n != files::UNREAD {
-        join_slips(rt, first, files::front(&second, n));
-    }
-}
-
-fn join_slips(rt: &(impl Print + Env + Complaints), first: &[u8], second: &[u8]) {
-    let mut out = [0u8; Slip::MAX_BYTES];
-    let a = join::join(first, second, &mut out);
-    put(rt, head(a.side), last(a.side), a, &out);
+    let second = files::read(rt, 3, &mut second)?;
+    joined(rt, first, second)
 }
 
 // A refusal of one of the two slips bears its name, any other both.
-fn head(side: usize) -> usize {
-    if side == 0 { Said::FIRST } else { Said::DESK }
-}
-
-fn last(side: usize) -> usize {
-    if side == 1 { 2 } else { 3 }
+fn joined(rt: &impl Print, first: &[u8], second: &[u8]) -> Result<(), Said> {
+    let mut out = [0u8; Slip::MAX_BYTES];
+    let a = join::join(first, second, &mut out);
+    let side = a.side;
+    match verdict::of(a) {
+        Ok(a) => put(rt, &out, a),
+        Err(refused) => {
+            let objection = Objection::Refused(refused);
+            Err(match side {
+                0 => Said::OfFiles(2, 3, objection),
+                1 => Said::OfFile(2, objection),
+                _ => Said::OfFile(3, objection),
+            })
+        }
+    }
 }

@@ -1,19 +1,20 @@
 // The arguments: how many there are, the bytes of one, and the numbers among them.
 ghost use Rattle.std.specs.Prelude.{◌≤◌, length};
 
-use crate::messages;
 use crate::messages::Said;
-use pages::Complaints;
 use std::env::{Env, FillError};
+use std::io;
+use std::io::Write;
 use tables::limits::Slip;
 
 // The longest argument that is taken, in bytes: every path is shorter.
 pub const BYTES: usize = 4096;
 
-// Where the entries begin among the arguments, and one more of them than a slip has nodes.
+// Where the entries begin among the arguments.
 const FIRST: usize = 3;
 
-const ENTRIES: usize = Slip::MAX_NODES + 1;
+// One more than a slip has nodes.
+pub const ENTRIES: usize = Slip::MAX_NODES + 1;
 
 // How many arguments there are, the program's name among them.
 pub fn count(rt: &impl Env) -> usize {
@@ -26,58 +27,40 @@ pub fn count(rt: &impl Env) -> usize {
     usize::MAX
 }
 
+// Argument i, put into an area; nothing where it is missing, or longer.
+pub fn get<'a>(rt: &impl Env, i: usize, space: &'a mut [u8; BYTES]) -> &'a [u8] {
+    let n = put(rt, i, space);
+    &space[..n]
+}
+
 // Puts argument i into an area, and answers how many bytes it has; 0 where it is missing, or longer.
-pub fn put(rt: &impl Env, i: usize, space: &mut [u8; BYTES]) -> usize
+fn put(rt: &impl Env, i: usize, space: &mut [u8; BYTES]) -> usize
     ensures { result ≤ length space.new }
 {
     rt.arg(i, space).unwrap_or(0)
 }
 
-// Puts the entries among the arguments into a list, and answers how many there are; BAD where not all of them are
-// numbers, or there are more, and that is said then.
-pub fn entries(
-    rt: &(impl Print + Env + Complaints),
-    count: usize,
-    list: &mut [u16; fields::CELLS],
-) -> usize {
-    let mut to = 0;
-    let mut i = FIRST;
-    while i < count {
-        to = entry(rt, i, list, to);
-        if to == fields::BAD {
-            return to;
-        }
-        i += 1;
-    }
-    to
-}
-
-fn entry(
-    rt: &(impl Print + Env + Complaints),
-    i: usize,
-    list: &mut [u16; fields::CELLS],
-    to: usize,
-) -> usize {
-    if ENTRIES <= to {
-        messages::say(rt, Said::MANY_ENTRIES, [0, 0, 0], i);
-        return fields::BAD;
-    }
-    number(rt, i, list, to)
-}
-
-// Puts the number that an argument is into a list behind its first `to`, and answers how many stand there then. Where it
-// is none, that is said, and the answer is BAD.
-pub fn number(
-    rt: &(impl Print + Env + Complaints),
-    i: usize,
-    list: &mut [u16; fields::CELLS],
-    to: usize,
-) -> usize {
+// Puts argument i on a page as a name.
+pub fn name(rt: &impl Env, page: &mut impl Write, i: usize) -> io::Result<()> {
     let mut space = [0u8; BYTES];
-    let n = put(rt, i, &mut space);
-    let end = fields::one(&space[..n], list, to);
-    if end == fields::BAD {
-        messages::say(rt, Said::NO_NUMBER, [0, 0, 0], i);
+    pages::name(page, get(rt, i, &mut space))
+}
+
+// The entries among the arguments, put into a list.
+pub fn entries<'a>(
+    rt: &impl Env,
+    count: usize,
+    list: &'a mut [u16; ENTRIES],
+) -> Result<&'a [u16], Said> {
+    for (i, cell) in (FIRST..count).zip(list.iter_mut()) {
+        *cell = number(rt, i)?;
     }
-    end
+    list.get(..count.saturating_sub(FIRST))
+        .ok_or(Said::ManyEntries)
+}
+
+// The number that argument i is.
+pub fn number(rt: &impl Env, i: usize) -> Result<u16, Said> {
+    let mut space = [0u8; BYTES];
+    digits::number_of(get(rt, i, &mut space)).ok_or(Said::NoNumber(i))
 }

@@ -1,51 +1,60 @@
 // The words that name commands.
-use parts::words;
 
-// The commands' numbers, in the order of the lines that have their words.
-#[derive(Drop)]
-pub struct Command {}
+#[derive(Clone, Copy, Debug, PartialEq, Eq)]
+pub enum Command {
+    Check,
+    Tree,
+    Unpack,
+    Pack,
+    Prune,
+    Join,
+    Find,
+    Calls,
+    Version,
+    Help,
+}
 
 impl Command {
-    pub const CHECK: usize = 0;
+    pub fn named(word: &[u8]) -> Option<Command> {
+        match word {
+            b"check" => Some(Command::Check),
+            b"tree" => Some(Command::Tree),
+            b"unpack" => Some(Command::Unpack),
+            b"pack" => Some(Command::Pack),
+            b"prune" => Some(Command::Prune),
+            b"join" => Some(Command::Join),
+            b"find" => Some(Command::Find),
+            b"calls" => Some(Command::Calls),
+            b"--version" => Some(Command::Version),
+            b"help" | b"--help" | b"-h" => Some(Command::Help),
+            _ => None,
+        }
+    }
 
-    pub const TREE: usize = 1;
+    // Whether it takes so many arguments, the program's name and its own word among them.
+    pub fn fits(self, count: usize) -> bool {
+        match self {
+            Command::Check => 3 <= count,
+            Command::Tree | Command::Unpack | Command::Pack => count == 3,
+            Command::Prune | Command::Find => 4 <= count,
+            Command::Join => count == 4,
+            Command::Calls => count == 2,
+            Command::Version | Command::Help => true,
+        }
+    }
 
-    pub const UNPACK: usize = 2;
-
-    pub const PACK: usize = 3;
-
-    pub const PRUNE: usize = 4;
-
-    pub const JOIN: usize = 5;
-
-    pub const FIND: usize = 6;
-
-    pub const CALLS: usize = 7;
-
-    // Behind it stand the words for help.
-    pub const VERSION: usize = 8;
-
-    // A word that names none, and no word at all.
-    pub const NONE: usize = 12;
-
-    pub const MISSING: usize = 13;
-}
-
-pub fn named(word: &[u8]) -> usize {
-    words::number(
-        b"check\ntree\nunpack\npack\nprune\njoin\nfind\ncalls\n--version\nhelp\n--help\n-h\n",
-        word,
-    )
-}
-
-// Whether there is such a command and it takes so many arguments, the program's name and the command's word among them.
-pub fn fits(command: usize, count: usize) -> bool {
-    match command {
-        Command::CHECK => 3 <= count,
-        Command::TREE..=Command::PACK => count == 3,
-        Command::PRUNE | Command::FIND => 4 <= count,
-        Command::JOIN => count == 4,
-        Command::CALLS => count == 2,
-        _ => command < Command::NONE,
+    pub fn usage(self) -> &'static str {
+        match self {
+            Command::Check => "desk check FILE..",
+            Command::Tree => "desk tree FILE",
+            Command::Unpack => "desk unpack FILE",
+            Command::Pack => "desk pack FILE",
+            Command::Prune => "desk prune FILE ENTRY..",
+            Command::Join => "desk join FILE FILE",
+            Command::Find => "desk find TYPE FILE..",
+            Command::Calls => "desk calls",
+            Command::Version => "desk --version",
+            Command::Help => "desk help",
+        }
     }
 }

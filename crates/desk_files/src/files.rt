@@ -1,47 +1,33 @@
 // A file that an argument names.
+ghost use Rattle.std.specs.Prelude.{◌≤◌, length, IfOk};
+
+use crate::arguments;
 use crate::messages::Said;
 use crate::system::System;
-use crate::{arguments, messages};
 use std::io::{ErrorKind, Read};
 use std::rt::Files;
 use std::{fs, io, str};
 use table_text::reading::BYTES;
 use text_lines::reading;
-use text_lines::reading::Got;
 
 // One byte more than a table's text may have, which is more than a slip has: a longer file is refused all the same.
 pub const ROOM: usize = BYTES + 1;
 
-// The answer where a file cannot be read; that is said then.
-pub const UNREAD: usize = usize::MAX;
-
-// Reads the file that argument i names from its start as far as there is room, and answers how many bytes that is;
-// `-` is standard input.
-pub fn read(rt: &impl System, i: usize, space: &mut [u8; ROOM]) -> usize {
+// The file that argument i names, from its start as far as there is room; `-` is standard input.
+pub fn read<'a>(rt: &impl System, i: usize, space: &'a mut [u8; ROOM]) -> Result<&'a [u8], Said> {
     let mut name = [0u8; arguments::BYTES];
-    let k = arguments::put(rt, i, &mut name);
-    let n = got(rt, &name[..k], space);
-    if n == UNREAD {
-        messages::say(rt, Said::CANNOT_READ, [0, 0, 0], i);
-    }
-    n
-}
-
-fn got(rt: &impl System, name: &[u8], space: &mut [u8; ROOM]) -> usize {
-    if check::same(name, b"-") {
-        return taken(&mut rt.reader(), space);
-    }
-    match opened(rt, name) {
-        Ok(mut file) => taken(&mut file, space),
-        Err(_) => UNREAD,
+    match taken(rt, arguments::get(rt, i, &mut name), space) {
+        Ok(n) => Ok(&space[..n]),
+        Err(_) => Err(Said::CannotRead(i)),
     }
 }
 
-fn taken(source: &mut impl Read, space: &mut [u8; ROOM]) -> usize {
-    let got = reading::all(source, space);
-    match got {
-        Got::Bytes(n) => n,
-        Got::Failed => UNREAD,
+fn taken(rt: &impl System, name: &[u8], space: &mut [u8; ROOM]) -> io::Result<usize>
+    ensures { IfOk result (λ n. n ≤ length space.new) }
+{
+    match name {
+        b"-" => reading::read_all(&mut rt.reader(), space),
+        _ => reading::read_all(&mut opened(rt, name)?, space),
     }
 }
 
@@ -51,9 +37,4 @@ fn opened<R: Files>(rt: &R, name: &[u8]) -> io::Result<R::File> {
         Ok(path) => fs::open(rt, path),
         Err(_) => Err(io::Error::from(ErrorKind::InvalidInput)),
     }
-}
-
-// The first n bytes of what was read.
-pub fn front(space: &[u8; ROOM], n: usize) -> &[u8] {
-    parts::bytes(space, 0, n)
 }

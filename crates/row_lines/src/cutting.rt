@@ -10,13 +10,13 @@ const WIDTH: usize = 80;
 const LEAST: usize = 8;
 
 // How much of a pair's line is left for the value: 16 go to what of the label is shown, the word and the spaces.
-pub fn room(row: usize, depth: usize, kind: usize) -> usize
+pub fn room(row: usize, depth: usize, kind: u16) -> usize
     ensures { 3 ≤ result }
 {
     if Slip::MAX_HEIGHT < depth {
         return LEAST;
     }
-    WIDTH - 16 - 2 * depth - digits(row) - digits(kind)
+    WIDTH - 16 - 2 * depth - digits(row) - digits(usize::from(kind))
 }
 
 fn digits(n: usize) -> usize
@@ -30,42 +30,40 @@ fn digits(n: usize) -> usize
     }
 }
 
-// How many bytes of a value are shown.
-pub fn cut(kind: usize, value: &[u8], room: usize) -> usize
+// The front of a value that is shown.
+pub fn cut(kind: u16, value: &[u8], room: usize) -> &[u8]
     requires { 3 ≤ room }
 {
     let whole = fit(kind, value, room);
-    if whole == value.len() {
+    if whole.len() == value.len() {
         return whole;
     }
     fit(kind, value, room - 3)
 }
 
-// How many bytes of a value fit: a text takes a place a character, hex two a byte.
-fn fit(kind: usize, value: &[u8], room: usize) -> usize {
+// The front of a value that fits: a text takes a place a character, hex two a byte.
+fn fit(kind: u16, value: &[u8], room: usize) -> &[u8] {
     if writing::legible(kind, value) {
         return front(value, room);
     }
-    parts::end(value, 0, room / 2)
+    value.get(..room / 2).unwrap_or(value)
 }
 
-// How many bytes the first characters of a text take, as many as there may be.
-fn front(text: &[u8], most: usize) -> usize {
+// The first characters of a text, as many as there may be.
+fn front(text: &[u8], most: usize) -> &[u8] {
     let mut left = most;
-    let mut i = 0;
-    while i < text.len() {
-        if begins(text[i]) {
+    for (i, b) in text.iter().enumerate() {
+        if begins(*b) {
             if left == 0 {
-                return i;
+                return &text[..i];
             }
             left -= 1;
         }
-        i += 1;
     }
-    i
+    text
 }
 
 // Whether a byte of UTF-8 begins a character: those from 128 to 191 go on with one.
 fn begins(b: u8) -> bool {
-    b < 128 || 191 < b
+    !matches!(b, 128..=191)
 }

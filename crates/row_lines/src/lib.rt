@@ -4,4 +4,5 @@
 mod cutting;
 pub mod drawing;
 mod places;
+pub mod rows;
 pub mod writing;

@@ -1,70 +1,68 @@
 // Why a line is no row.
+use std::fmt;
 
-// The faults. Their words stand in `desk_files`, a line each in this order.
-#[derive(Drop)]
-pub struct Fault {}
+#[derive(Clone, Copy, Debug, PartialEq, Eq)]
+pub enum Fault {
+    Word,
+    Number,
+    Missing,
+    Odd,
+    Upper,
+    Digit,
+    More,
+    Long,
+    Rows,
+}
 
-impl Fault {
-    pub const WORD: usize = 0;
+impl fmt::Display for Fault {
+    fn fmt<W: fmt::Write>(&self, f: &mut fmt::Formatter<W>) -> fmt::Result {
+        f.write_str(match self {
+            Fault::Word => "a row begins with inner, gone or pair",
+            Fault::Number => "no number from 0 to 65535",
+            Fault::Missing => "no value, and - is the empty one",
+            Fault::Odd => "an odd number of digits",
+            Fault::Upper => "upper-case digits",
+            Fault::Digit => "a sign that is no hex digit",
+            Fault::More => "more than one value",
+            Fault::Long => "a value longer than any slip",
+            Fault::Rows => "more rows than a slip has",
+        })
+    }
+}
 
-    pub const NUMBER: usize = 1;
+// A line that is no row, counted from 1, and why.
+#[derive(Clone, Copy, Debug, PartialEq, Eq)]
+pub struct NoRow {
+    pub line: usize,
+    pub fault: Fault,
+}
 
-    pub const MISSING: usize = 2;
-
-    pub const ODD: usize = 3;
-
-    pub const UPPER: usize = 4;
-
-    pub const DIGIT: usize = 5;
-
-    pub const MORE: usize = 6;
-
-    pub const LONG: usize = 7;
-
-    pub const ROWS: usize = 8;
-
-    pub const NONE: usize = 9;
+impl fmt::Display for NoRow {
+    fn fmt<W: fmt::Write>(&self, f: &mut fmt::Formatter<W>) -> fmt::Result {
+        write!(f, "no row in line {}: {}", self.line, self.fault)
+    }
 }
 
 // Why the digits of a value stand for no bytes.
-pub fn of_digits(digits: &[u8]) -> usize {
-    if digits.len() == 0 {
-        return Fault::MISSING;
+pub fn of_digits(digits: &[u8]) -> Fault {
+    if digits.is_empty() {
+        return Fault::Missing;
     }
-    let at = strange(digits);
-    if at < digits.len() {
-        return of_byte(digits[at]);
+    match digits.iter().find(|b| !is_digit(**b)) {
+        Some(strange) => of_byte(*strange),
+        None if digits.len() % 2 == 0 => Fault::Long,
+        None => Fault::Odd,
     }
-    if digits.len() % 2 == 0 {
-        Fault::LONG
-    } else {
-        Fault::ODD
-    }
-}
-
-// Where the first byte stands that is no digit, or the digits' end.
-fn strange(digits: &[u8]) -> usize {
-    let mut i = 0;
-    while i < digits.len() {
-        if !is_digit(digits[i]) {
-            break;
-        }
-        i += 1;
-    }
-    i
 }
 
 fn is_digit(b: u8) -> bool {
-    match b {
-        b'0'..=b'9' | b'a'..=b'f' => true,
-        _ => false,
-    }
+    matches!(b, b'0'..=b'9' | b'a'..=b'f')
 }
 
-fn of_byte(b: u8) -> usize {
+fn of_byte(b: u8) -> Fault {
     match b {
-        b'A'..=b'F' => Fault::UPPER,
-        b' ' => Fault::MORE,
-        _ => Fault::DIGIT,
+        b'A'..=b'F' => Fault::Upper,
+        b' ' => Fault::More,
+        _ => Fault::Digit,
     }
 }

@@ -1,174 +1,160 @@
 // The rows of a text put into a table.
-ghost use Rattle.std.specs.Prelude.{◌<◌};
+ghost use Rattle.std.specs.Prelude.{◌≡◌, ◌≤◌, length, take, IfOk};
 ghost use Rattle.trees.specs.Rules.{max_nodes};
 
 use crate::faults;
-use crate::faults::Fault;
-use parts::{scan, words};
+use crate::faults::{Fault, NoRow};
 use tables::limits::Slip;
+use tables::table::Table;
 
 // The longest text, in bytes.
 pub const BYTES: usize = 262144;
 
-// The columns stand end to end in one area, a cell a row: types, then counts, then lengths.
 pub const ROWS: usize = Slip::MAX_NODES;
 
-pub const CELLS: usize = 3 * ROWS;
+// What the area of values holds: two digits of the text stand for a byte.
+const VALUES: usize = BYTES / 2;
 
-// How many rows and bytes of values were read, and what is wrong with the line behind them, if it is no row.
+// The rows of a table, and their values end to end.
 #[derive(Drop)]
-pub struct Table {
-    pub rows: usize,
-    pub used: usize,
-    pub fault: usize,
+pub struct Rows {
+    types: [u16; ROWS],
+    counts: [u16; ROWS],
+    lengths: [u16; ROWS],
+    values: [u8; VALUES],
+    rows: usize,
+    used: usize,
+    ghost rows_fit: { rows ≤ max_nodes },
+    ghost values_fit: { used ≤ 131072 },
 }
 
-// What a line says, where its value ends among the values, and what is wrong with it.
-#[derive(Drop)]
+// What a line says.
+#[derive(Clone, Copy)]
 struct Row {
     kind: u16,
     count: u16,
     length: u16,
-    to: usize,
-    fault: usize,
 }
 
-pub fn read(text: &[u8], cells: &mut [u16; CELLS], values: &mut [u8; fields::BYTES]) -> Table {
-    let mut rows = 0;
-    let mut used = 0;
-    let mut at = 0;
-    while at < text.len() {
-        if ROWS <= rows {
-            return ended(rows, used, Fault::ROWS);
+impl Rows {
+    pub fn new() -> Self {
+        Rows {
+            types: [0; ROWS],
+            counts: [0; ROWS],
+            lengths: [0; ROWS],
+            values: [0; VALUES],
+            rows: 0,
+            used: 0,
         }
-        let end = scan::find(text, at, text.len(), b'\n');
-        let row = row_of(&text[at..end], values, used);
-        if row.fault != Fault::NONE {
-            return ended(rows, used, row.fault);
-        }
-        keep(cells, rows, row.kind, row.count, row.length);
-        used = row.to;
-        rows += 1;
-        at = end + 1;
     }
-    ended(rows, used, Fault::NONE)
+
+    // Puts the rows of a text behind those that there are, up to a line that is none.
+    pub fn read(&mut self, text: &[u8]) -> Result<(), NoRow> {
+        for line in text.split_inclusive(|b| *b == b'\n') {
+            let line = line.strip_suffix(b"\n").unwrap_or(line);
+            if let Err(fault) = self.push(line) {
+                return Err(NoRow {
+                    line: self.rows + 1,
+                    fault,
+                });
+            }
+        }
+        Ok(())
+    }
+
+    fn push(&mut self, line: &[u8]) -> Result<(), Fault> {
+        let row = self.rows;
+        if ROWS <= row {
+            return Err(Fault::Rows);
+        }
+        let Row {
+            kind,
+            count,
+            length,
+        } = row_of(line, &mut self.values[self.used..])?;
+        self.types[row] = kind;
+        self.counts[row] = count;
+        self.lengths[row] = length;
+        self.used += usize::from(length);
+        self.rows += 1;
+        Ok(())
+    }
+
+    pub fn table(&self) -> Table<'_>
+        ensures types { result.types.now ≡ take self.now.rows self.now.types }
+        ensures counts { result.counts.now ≡ take self.now.rows self.now.counts }
+        ensures lengths { result.lengths.now ≡ take self.now.rows self.now.lengths }
+        ensures values { result.values.now ≡ take self.now.used self.now.values }
+    {
+        Table {
+            types: &self.types[..self.rows],
+            counts: &self.counts[..self.rows],
+            lengths: &self.lengths[..self.rows],
+            values: &self.values[..self.used],
+        }
+    }
 }
 
-fn ended(rows: usize, used: usize, fault: usize) -> Table {
-    Table { rows, used, fault }
-}
-
-fn keep(cells: &mut [u16; CELLS], row: usize, kind: u16, count: u16, length: u16)
-    requires { row < max_nodes }
+// What a line says. The value, if there is one, is put at the start of the room.
+fn row_of(line: &[u8], room: &mut [u8]) -> Result<Row, Fault>
+    ensures { IfOk result (λ row. row.length ≤ length room.new) }
 {
-    cells[row] = kind;
-    cells[ROWS + row] = count;
-    cells[2 * ROWS + row] = length;
-}
-
-// The value, if there is one, goes behind the values that there are.
-fn row_of(line: &[u8], values: &mut [u8; fields::BYTES], used: usize) -> Row {
-    let said = parts::bytes(line, 0, spoken(line));
-    let end = scan::find(said, 0, said.len(), b' ');
-    let word = words::number(b"inner\ngone\npair\n", parts::bytes(said, 0, end));
-    worded(word, parts::bytes(said, end + 1, said.len()), values, used)
-}
-
-fn worded(word: usize, rest: &[u8], values: &mut [u8; fields::BYTES], used: usize) -> Row {
+    let (word, rest) = cut(spoken(line));
     match word {
-        0 => inner(rest, used),
-        1 => valued(0, rest, values, used),
-        2 => pair(rest, values, used),
-        _ => no_row(Fault::WORD),
+        b"inner" => inner(rest),
+        b"gone" => valued(0, rest, room),
+        b"pair" => pair(rest, room),
+        _ => Err(Fault::Word),
     }
 }
 
-// How much of a line is read: what stands before a `#` that has a space before it.
-fn spoken(line: &[u8]) -> usize {
-    let mark = scan::find(line, 0, line.len(), b'#');
-    if mark == 0 || mark == line.len() {
-        return line.len();
-    }
-    if line[mark - 1] == b' ' {
-        mark - 1
-    } else {
-        line.len()
+// What of a line is read: what stands before a `#` that has a space before it.
+fn spoken(line: &[u8]) -> &[u8] {
+    match parts::find(line, b'#') {
+        Some(mark) => line[..mark].strip_suffix(b" ").unwrap_or(line),
+        None => line,
     }
 }
 
-fn inner(word: &[u8], used: usize) -> Row {
-    let count = fields::number_of(word);
-    if fields::OVER <= count {
-        return no_row(Fault::NUMBER);
+// What stands before the first space, and behind it.
+fn cut(text: &[u8]) -> (&[u8], &[u8]) {
+    match parts::find(text, b' ') {
+        Some(at) => (&text[..at], &text[at + 1..]),
+        None => (text, b""),
     }
-    Row {
+}
+
+fn number(word: &[u8]) -> Result<u16, Fault> {
+    digits::number_of(word).ok_or(Fault::Number)
+}
+
+fn inner(word: &[u8]) -> Result<Row, Fault>
+    ensures { IfOk result (λ row. row.length ≡ 0) }
+{
+    let count = number(word)?;
+    Ok(Row {
         kind: 0,
-        count: count as u16,
+        count,
         length: 0,
-        to: used,
-        fault: Fault::NONE,
-    }
+    })
 }
 
-fn pair(rest: &[u8], values: &mut [u8; fields::BYTES], used: usize) -> Row {
-    let end = scan::find(rest, 0, rest.len(), b' ');
-    let kind = fields::number_of(parts::bytes(rest, 0, end));
-    if fields::OVER <= kind {
-        return no_row(Fault::NUMBER);
-    }
-    valued(
-        kind as u16,
-        parts::bytes(rest, end + 1, rest.len()),
-        values,
-        used,
-    )
-}
-
-fn valued(kind: u16, digits: &[u8], values: &mut [u8; fields::BYTES], used: usize) -> Row {
-    if check::same(digits, b"-") {
-        return leaf(kind, used, used);
-    }
-    let to = fields::octets(digits, values, used);
-    if to == fields::BAD {
-        return no_row(faults::of_digits(digits));
-    }
-    leaf(kind, used, to)
+fn pair(rest: &[u8], room: &mut [u8]) -> Result<Row, Fault>
+    ensures { IfOk result (λ row. row.length ≤ length room.new) }
+{
+    let (kind, digits) = cut(rest);
+    valued(number(kind)?, digits, room)
 }
 
 // A row, but for a value whose length no cell holds.
-fn leaf(kind: u16, from: usize, to: usize) -> Row {
-    if to < from {
-        return no_row(Fault::LONG);
-    }
-    if 65535 < to - from {
-        return no_row(Fault::LONG);
-    }
-    Row {
+fn valued(kind: u16, digits: &[u8], room: &mut [u8]) -> Result<Row, Fault>
+    ensures { IfOk result (λ row. row.length ≤ length room.new) }
+{
+    let n = fields::hex(digits, room).ok_or_else(|| faults::of_digits(digits))?;
+    let length = u16::try_from(n).map_err(|_| Fault::Long)?;
+    Ok(Row {
         kind,
         count: 0,
-        length: (to - from) as u16,
-        to,
-        fault: Fault::NONE,
-    }
-}
-
-fn no_row(fault: usize) -> Row {
-    Row {
-        kind: 0,
-        count: 0,
-        length: 0,
-        to: 0,
-        fault,
-    }
-}
-
-// Column k of so many rows: 0 has the types, 1 the counts, 2 the lengths.
-pub fn column(cells: &[u16; CELLS], k: usize, rows: usize) -> &[u16]
-    requires { k < 3 }
-{
-    if ROWS < rows {
-        return parts::cells(cells, 0, 0);
-    }
-    let from = k * ROWS;
-    parts::cells(cells, from, from + rows)
+        length,
+    })
 }
