@@ -1,31 +1,40 @@
 // The calls that a task may name.
 ghost use Rattle.io.specs.Counts.{IsPrefixLen};
 
-use crate::task;
+use crate::task::Task;
 use answers::Answer;
 
-const CHECK: usize = 0;
+#[derive(Clone, Copy)]
+pub enum Call {
+    Check,
+    Prune,
+    Join,
+}
 
-const PRUNE: usize = 1;
+// Any other number is a join.
+impl From<u16> for Call {
+    fn from(number: u16) -> Call {
+        match number {
+            0 => Call::Check,
+            1 => Call::Prune,
+            _ => Call::Join,
+        }
+    }
+}
 
 // So many names are read: a longer list is refused at one of them, since a slip has 1,023 nodes at most.
 const NAMES: usize = 1024;
 
-// Any other number is a join.
-pub fn answered(given: &[u8], out: &mut [u8]) -> Answer {
-    let call = parts::sixteen(given, task::CALL);
-    let s = task::first(given);
-    if call == CHECK {
-        return slips::check::check(s);
+pub fn answered(task: &Task<'_>, out: &mut [u8]) -> Answer {
+    match task.call {
+        Call::Check => slips::check::check(task.first),
+        Call::Prune => pruned(task.first, task.second, out),
+        Call::Join => join::join(task.first, task.second, out),
     }
-    if call == PRUNE {
-        return pruned(s, task::second(given), out);
-    }
-    join::join(s, task::second(given), out)
 }
 
 fn pruned(s: &[u8], list: &[u8], out: &mut [u8]) -> Answer {
-    let mut names = [0u16; NAMES];
+    let mut names = [0; NAMES];
     let n = named(list, &mut names);
     prune::prune(s, &names[..n], out)
 }
@@ -34,13 +43,9 @@ fn pruned(s: &[u8], list: &[u8], out: &mut [u8]) -> Answer {
 fn named(list: &[u8], cells: &mut [u16]) -> usize
     ensures { IsPrefixLen result cells.new }
 {
-    let mut i = 0;
-    while i < cells.len() {
-        if list.len() / 2 <= i {
-            break;
-        }
-        cells[i] = parts::sixteen(list, i) as u16;
-        i += 1;
+    let (names, _) = list.as_chunks();
+    for (cell, name) in cells.iter_mut().zip(names) {
+        *cell = u16::from_be_bytes(*name);
     }
-    i
+    names.len().min(cells.len())
 }

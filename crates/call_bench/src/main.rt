@@ -6,60 +6,40 @@ mod calls;
 mod tally;
 mod task;
 
-ghost use Rattle.std.specs.Prelude.{◌≤◌, length};
-
 use std::io::Read;
+use tally::Tally;
+use task::{PARTS, ROOM, Task};
 
 // What an output holds before a task.
 const FILL: u8 = 165;
 
 fn main(rt: HostRuntime) {
-    let mut given = [0u8; task::GIVEN];
-    let mut out = [0u8; task::ROOM];
-    let tally = run(&mut rt.reader(), &mut given, &mut out);
-    if !tally::print(&rt, tally) {
+    let mut parts = [0; PARTS];
+    let mut out = [0; ROOM];
+    let tally = run(&mut rt.reader(), &mut parts, &mut out);
+    if println!(rt; "{tally}").is_err() {
         let _ = eprintln!(rt; "call_bench: cannot write");
     }
 }
 
 // A proved loop ends: this one where the input does, or after more turns than any run takes.
-fn run(
-    source: &mut impl Read,
-    given: &mut [u8; task::GIVEN],
-    out: &mut [u8],
-) -> [u64; tally::CELLS] {
-    let mut tally = [0u64; tally::CELLS];
-    let mut turns = u64::MAX;
-    while 0 < turns {
-        if !task::read(source, given) {
+fn run(source: &mut impl Read, parts: &mut [u8; PARTS], out: &mut [u8; ROOM]) -> Tally {
+    let mut tally = Tally::default();
+    for _ in 0..u64::MAX {
+        let Some(task) = Task::read(source, parts) else {
             break;
-        }
-        done(given, out, &mut tally);
-        turns -= 1;
+        };
+        done(&task, out, &mut tally);
     }
     tally
 }
 
 // Tallies a task's answers and what stands in its output behind the last of them.
-fn done(given: &[u8], out: &mut [u8], tally: &mut [u64; tally::CELLS]) {
-    let room = filled(out, parts::sixteen(given, task::OUTPUT));
-    let mut left = parts::sixteen(given, task::TIMES);
-    while 0 < left {
-        tally::answer(tally, calls::answered(given, &mut out[..room]));
-        left -= 1;
+fn done(task: &Task<'_>, out: &mut [u8; ROOM], tally: &mut Tally) {
+    let room = &mut out[..usize::from(task.output)];
+    room.fill(FILL);
+    for _ in 0..task.times {
+        tally.answer(&calls::answered(task, room));
     }
-    tally::bytes(tally, parts::bytes(out, 0, room));
-}
-
-// Fills the front of an area, and answers how much of it.
-fn filled(out: &mut [u8], asked: usize) -> usize
-    ensures { result ≤ length out.new }
-{
-    let room = parts::byte_room(out, asked);
-    let mut i = 0;
-    while i < room {
-        out[i] = FILL;
-        i += 1;
-    }
-    room
+    tally.bytes(room);
 }

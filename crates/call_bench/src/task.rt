@@ -1,63 +1,38 @@
 // A task: five numbers of 16 bits, the more significant byte first, then its two parts. The parts are a slip and either
 // a pruning list, two bytes a name, or a second slip.
-ghost use Rattle.std.specs.Prelude.{◌≡◌, ◌≤◌, length};
-
+use crate::calls::Call;
 use std::io::Read;
-use text_lines::reading;
 
-// The longest part or output that 16 bits announce, and a whole task.
+// The longest part or output that 16 bits announce, and two parts.
 pub const ROOM: usize = 65535;
 
-pub const GIVEN: usize = HEAD + 2 * ROOM;
+pub const PARTS: usize = 2 * ROOM;
 
 const HEAD: usize = 10;
 
-// Which of a task's numbers says what.
-pub const CALL: usize = 0;
+#[derive(Clone, Copy)]
+pub struct Task<'a> {
+    pub call: Call,
+    pub times: u16,
+    pub first: &'a [u8],
+    pub second: &'a [u8],
+    pub output: u16,
+}
 
-pub const TIMES: usize = 1;
-
-const FIRST: usize = 2;
-
-const SECOND: usize = 3;
-
-pub const OUTPUT: usize = 4;
-
-// Reads the next task; false at the end of the input.
-pub fn read(source: &mut impl Read, given: &mut [u8; GIVEN]) -> bool
-    ensures { length given.new ≡ 131080 }
-{
-    if fetched(source, given, 0, HEAD) < HEAD {
-        return false;
+impl<'a> Task<'a> {
+    // The next task; none at the end of the input. One that is cut short has the bytes of earlier ones behind its own.
+    pub fn read(source: &mut impl Read, parts: &'a mut [u8; PARTS]) -> Option<Task<'a>> {
+        let mut head = [0; HEAD];
+        source.read_exact(&mut head).ok()?;
+        let middle = usize::from(parts::sixteen(&head, 2)?);
+        let end = middle + usize::from(parts::sixteen(&head, 3)?);
+        let _ = source.read_exact(&mut parts[..end]);
+        Some(Task {
+            call: Call::from(parts::sixteen(&head, 0)?),
+            times: parts::sixteen(&head, 1)?,
+            first: &parts[..middle],
+            second: &parts[middle..end],
+            output: parts::sixteen(&head, 4)?,
+        })
     }
-    let end = end(given);
-    fetched(source, given, HEAD, end);
-    true
-}
-
-fn fetched(source: &mut impl Read, area: &mut [u8], from: usize, to: usize) -> usize
-    requires { (from ≤ to) × (to ≤ length area.old) }
-{
-    reading::full(source, &mut area[from..to])
-}
-
-// Where the first part ends, and where the second.
-fn middle(given: &[u8]) -> usize
-    ensures { (10 ≤ result) × (result ≤ 65545) }
-{
-    HEAD + parts::sixteen(given, FIRST)
-}
-
-fn end(given: &[u8]) -> usize
-    ensures { (10 ≤ result) × (result ≤ 131080) }
-{
-    middle(given) + parts::sixteen(given, SECOND)
-}
-
-pub fn first(given: &[u8]) -> &[u8] {
-    parts::bytes(given, HEAD, middle(given))
-}
-
-pub fn second(given: &[u8]) -> &[u8] {
-    parts::bytes(given, middle(given), end(given))
 }

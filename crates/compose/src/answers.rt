@@ -1,98 +1,110 @@
-// What is put on the page for a title.
-ghost use Rattle.std.specs.Prelude.{◌+◌, ◌≤◌, length};
+// What is answered to the titles, one after the other.
+ghost use Rattle.std.specs.Prelude.{◌≤◌, length, IfOk};
 
-use crate::words;
-use outcomes::Refusal;
-use pages::Complaints;
-use titles::{Composed, Title};
+use crate::words::Complaint;
+use outcomes::numbers::Refused;
+use std::io;
+use std::io::Write;
+
+#[derive(Clone, Copy)]
+pub enum Form {
+    // `composed` and the title, or `refused`, the number and the place.
+    Named,
+    // The title alone, or its refusal in words on standard error.
+    Bare,
+}
 
 // The bytes of `composed `, and the longest answer: that, a title and a line feed.
 const WORD: usize = 9;
 
-const ROOM: usize = WORD + Title::MAX_BYTES + 1;
+const ROOM: usize = WORD + titles::MAX_BYTES + 1;
 
-pub fn put(
-    rt: &(impl Print + Complaints),
-    title: &[u8],
-    line: usize,
-    text: &mut [u8; pages::BYTES],
-    at: usize,
-    is_bare: bool,
-) -> usize {
-    if is_bare {
-        return alone(rt, title, line, text, at);
-    }
-    named(rt, title, text, at)
+#[derive(Drop)]
+pub struct Answers {
+    form: Form,
+    // How many titles came.
+    number: usize,
+    // Where a composed title is put together.
+    room: [u8; ROOM],
 }
 
-// `composed` and the title, or `refused`, the number and the place. The title is composed where its bytes are to stand,
-// since a refusal writes nothing.
-fn named(rt: &impl Print, title: &[u8], text: &mut [u8; pages::BYTES], at: usize) -> usize {
-    let from = pages::room(rt, text, at, ROOM);
-    if pages::BYTES - ROOM < from {
-        return pages::BROKEN;
+impl Answers {
+    pub fn new(form: Form) -> Answers {
+        Answers {
+            form,
+            number: 0,
+            room: [0; ROOM],
+        }
     }
-    let r = composed(title, text, from);
-    if r.number != Refusal::ACCEPTED {
-        return refused(rt, text, from, r);
+
+    // Whether the next title is the first.
+    pub fn is_first(&self) -> bool {
+        self.number == 0
     }
-    ended(rt, text, from + WORD, r.length)
+
+    pub fn put(
+        &mut self,
+        page: &mut impl Write,
+        complaints: &mut impl Write,
+        title: &[u8],
+    ) -> io::Result<()> {
+        self.number = self.number.wrapping_add(1);
+        match self.form {
+            Form::Named => self.named(page, title),
+            Form::Bare => self.bare(page, complaints, title),
+        }
+    }
+
+    fn named(&mut self, page: &mut impl Write, title: &[u8]) -> io::Result<()> {
+        match line(b"composed ", title, &mut self.room) {
+            Ok(line) => page.write_all(line),
+            Err(r) => writeln!(page, "refused {} {}", r.refusal.number(), r.place),
+        }
+    }
+
+    // The titles before a refused one are written out before its complaint, and what cannot be said is not said.
+    fn bare(
+        &mut self,
+        page: &mut impl Write,
+        complaints: &mut impl Write,
+        title: &[u8],
+    ) -> io::Result<()> {
+        match line(b"", title, &mut self.room) {
+            Ok(line) => page.write_all(line),
+            Err(refused) => {
+                page.flush()?;
+                let complaint = Complaint {
+                    line: self.number,
+                    title,
+                    refused,
+                };
+                let _ = said(complaints, complaint);
+                Ok(())
+            }
+        }
+    }
 }
 
-fn composed(title: &[u8], text: &mut [u8], from: usize) -> Composed
-    requires { from + 9 ≤ length text.old }
+fn said(complaints: &mut impl Write, complaint: Complaint<'_>) -> io::Result<()> {
+    writeln!(complaints, "{complaint}")?;
+    complaints.flush()
+}
+
+// A word, the title behind it, composed, and a line feed; or the refusal. A title is composed where its bytes are to
+// stand.
+fn line<'a>(word: &[u8], title: &[u8], room: &'a mut [u8; ROOM]) -> Result<&'a [u8], Refused>
+    requires { length word.now ≤ 9 }
 {
-    let to = from + WORD;
-    text[from..to].copy_from_slice(b"composed ");
-    titles::compose(title, &mut text[to..])
+    let n = word.len();
+    room[..n].copy_from_slice(word);
+    let end = n + composed(title, &mut room[n..])?;
+    room[end] = b'\n';
+    Ok(&room[..=end])
 }
 
-// The title alone, or its refusal in words.
-fn alone(
-    rt: &(impl Print + Complaints),
-    title: &[u8],
-    line: usize,
-    text: &mut [u8; pages::BYTES],
-    at: usize,
-) -> usize {
-    let to = pages::room(rt, text, at, ROOM);
-    if pages::BYTES < to {
-        return pages::BROKEN;
-    }
-    let r = bare(title, text, to);
-    if r.number != Refusal::ACCEPTED {
-        return told(rt, text, to, line, title, r);
-    }
-    ended(rt, text, to, r.length)
-}
-
-fn bare(title: &[u8], text: &mut [u8], to: usize) -> Composed
-    requires { to ≤ length text.old }
+// The composed title's length; it stands at the front of `out`.
+fn composed(title: &[u8], out: &mut [u8]) -> Result<usize, Refused>
+    ensures { IfOk result (λ n. n ≤ 511) }
 {
-    titles::compose(title, &mut text[to..])
-}
-
-fn ended(rt: &impl Print, text: &mut [u8; pages::BYTES], to: usize, n: usize) -> usize {
-    let end = parts::end(text, to, n);
-    pages::byte(rt, text, end, b'\n')
-}
-
-// Writes out the titles before a refused one, and says on the page that is empty then why it is refused.
-fn told(
-    rt: &(impl Print + Complaints),
-    text: &mut [u8; pages::BYTES],
-    from: usize,
-    line: usize,
-    title: &[u8],
-    r: Composed,
-) -> usize {
-    let to = pages::flush(rt, text, from);
-    if to == 0 {
-        words::complain(rt, text, line, title, r);
-    }
-    to
-}
-
-fn refused(rt: &impl Print, text: &mut [u8; pages::BYTES], from: usize, r: Composed) -> usize {
-    pages::numbered(rt, text, from, b"refused @ @\n", [r.number, r.place, 0])
+    titles::compose_into(title, out)
 }

@@ -8,95 +8,91 @@
 mod answers;
 mod words;
 
-use pages::Complaints;
+use answers::{Answers, Form};
+use pages::{Complaints, Page};
 use std::env::{Env, FillError};
-use std::io::Read;
-use std::num;
-use text_lines::input;
+use std::io;
+use std::io::{Read, Write};
+use text_lines::{Line, Lines, ROOM};
+
+const BYTE_ORDER_MARK: &[u8] = b"\xEF\xBB\xBF";
+
+// What ends a run before the input's end.
+#[derive(Drop)]
+enum Fault {
+    Read,
+    Write,
+}
+
+// A read's error is told as such where it comes; every other one is a write's.
+impl From<io::Error> for Fault {
+    fn from(_e: io::Error) -> Fault {
+        Fault::Write
+    }
+}
 
 fn main(rt: HostRuntime) {
-    let mut area = [0u8; input::ROOM];
-    let mut text = [0u8; pages::BYTES];
-    let bare = has_word(&rt);
-    run(&rt, &mut rt.reader(), &mut area, &mut text, bare);
+    let mut area = [0; ROOM];
+    let mut page = Page::new(io::writer(&rt));
+    let mut complaints = Page::new(rt.complaints());
+    let form = form(&rt);
+    let ended = run(
+        &mut rt.reader(),
+        &mut area,
+        &mut page,
+        &mut complaints,
+        form,
+    );
+    // Behind a failed write nothing more is written.
+    if matches!(ended, Err(Fault::Write)) || page.flush().is_err() {
+        pages::say(&rt, b"compose", b"cannot write");
+    }
+    if matches!(ended, Err(Fault::Read)) {
+        pages::say(&rt, b"compose", b"cannot read");
+    }
 }
 
 // Whether the program was given a word.
-fn has_word(rt: &impl Env) -> bool {
-    match rt.arg(1, &mut [0u8; 1]) {
-        Err(FillError::NotPresent) => false,
-        _ => true,
+fn form(rt: &impl Env) -> Form {
+    match rt.arg(1, &mut [0; 1]) {
+        Err(FillError::NotPresent) => Form::Named,
+        _ => Form::Bare,
     }
 }
 
-// A proved loop ends: this one where the input does, or after more turns than any run takes.
+// A proved loop ends: this one where the input does, or after more turns than any run takes. Where no line is whole the
+// answers are written out.
 fn run(
-    rt: &(impl Print + Complaints),
     source: &mut impl Read,
-    area: &mut [u8; input::ROOM],
-    text: &mut [u8; pages::BYTES],
-    bare: bool,
-) {
-    let mut r = input::Input::new();
-    let mut line = 0;
-    let mut to = 0;
-    let mut turns = u64::MAX;
-    while 0 < turns {
-        r = input::next(source, r, area);
-        line = num::wrapping_add_usize(line, r.line as usize);
-        to = turn(rt, area, r, line, text, to, bare);
-        if r.over {
-            break;
-        }
-        if to == pages::BROKEN {
-            break;
-        }
-        turns -= 1;
+    area: &mut [u8; ROOM],
+    page: &mut impl Write,
+    complaints: &mut impl Write,
+    form: Form,
+) -> Result<(), Fault> {
+    let mut lines = Lines::new();
+    let mut answers = Answers::new(form);
+    for _ in 0..u64::MAX {
+        let text = match lines.next(source, area).map_err(|_| Fault::Read)? {
+            Line::Whole(text) | Line::Front(text) => text.strip_suffix(b"\r").unwrap_or(text),
+            // The input is a byte order mark alone: there is no title.
+            Line::Last(BYTE_ORDER_MARK) if answers.is_first() => break,
+            Line::Last(text) => text,
+            Line::Awaited => {
+                page.flush()?;
+                continue;
+            }
+            Line::End => break,
+        };
+        let title = title(text, answers.is_first());
+        answers.put(page, complaints, title)?;
     }
-    pages::ended(rt, text, to, b"compose", r.failed);
+    Ok(())
 }
 
-// Answers a line. Where none is whole, the answers are written out.
-fn turn(
-    rt: &(impl Print + Complaints),
-    area: &[u8; input::ROOM],
-    r: input::Input,
-    line: usize,
-    text: &mut [u8; pages::BYTES],
-    to: usize,
-    bare: bool,
-) -> usize {
-    if !r.line {
-        return pages::flush(rt, text, to);
+// The title that stands on a line: on the first one behind the byte order mark.
+fn title(text: &[u8], is_first: bool) -> &[u8] {
+    if is_first {
+        return text.strip_prefix(BYTE_ORDER_MARK).unwrap_or(text);
     }
-    let title = title(parts::bytes(area, r.from, r.to), line, r.over);
-    // The input is a byte order mark alone: there is no title.
-    if r.over && title.len() == 0 {
-        return to;
-    }
-    answers::put(rt, title, line, text, to, bare)
-}
-
-// The title that stands on a line.
-fn title(line: &[u8], number: usize, last: bool) -> &[u8] {
-    parts::bytes(line, start_of(line, number), end_of(line, last))
-}
-
-// Where it starts: behind the byte order mark on the first line.
-fn start_of(line: &[u8], number: usize) -> usize {
-    if number == 1 && check::same(parts::bytes(line, 0, 3), b"\xEF\xBB\xBF") {
-        return 3;
-    }
-    0
-}
-
-// Where it ends: before the carriage return, if a line feed is behind it.
-fn end_of(line: &[u8], last: bool) -> usize {
-    let n = line.len();
-    if 0 < n && !last {
-        if line[n - 1] == b'\r' {
-            return n - 1;
-        }
-    }
-    n
+    text
 }

@@ -1,10 +1,9 @@
 // The digests of messages, made in parts over a lent digest.
-ghost use Rattle.std.specs.Prelude.{◌≡◌, min, ◌++◌};
+ghost use Rattle.std.specs.Prelude.{◌≡◌, ◌++◌};
 ghost use Rattle.sha256.specs.Sha256 as Sha256;
 ghost use Rattle.fips_cases.specs.Values.{Hashes};
 ghost use Rattle.fips_cases.specs.Monte.{monte};
 
-use crate::values::Label;
 use labels::lent;
 use sha256::digest::Digest;
 
@@ -12,66 +11,50 @@ use sha256::digest::Digest;
 const PART: usize = 1000;
 
 // FIPS 180-4 defines SHA-256 for fewer bytes than this.
-const BYTES: usize = 2305843009213693952;
+const BYTES: usize = 1 << 61;
 
 // The digits of a published message of so many bits: for the empty one two are published.
-pub fn shown(bits: usize, digits: &[u8]) -> &[u8] {
-    if bits == 0 && digits.len() == 2 {
-        return &digits[..0];
+pub fn shown(bits: Option<usize>, digits: &[u8]) -> &[u8] {
+    if bits == Some(0) && digits.len() == 2 {
+        return &[];
     }
     digits
 }
 
 // Whether so many bits are whole bytes, and so many digits spell them.
-pub fn whole(bits: usize, digits: usize) -> bool {
-    bits % 8 == 0 && bits / 4 == digits
+pub fn whole(bits: Option<usize>, digits: usize) -> bool {
+    bits.is_some_and(|n| n % 8 == 0 && n / 4 == digits)
 }
 
 // The digest of the message that the digits spell, part by part.
-pub fn hashed(digits: &[u8]) -> Label
-    ensures { Hashes digits.now result.is result.label }
+pub fn hashed(digits: &[u8]) -> Option<[u8; 32]>
+    ensures { Hashes digits.now result }
 {
-    let label = [0u8; 32];
     if BYTES <= digits.len() {
-        return Label { is: false, label };
+        return None;
     }
-    let mut bytes = [0u8; PART];
+    let mut bytes = [0; PART];
     let mut d = Digest::new();
-    let mut at = 0;
-    while at < digits.len() {
-        let to = at + size(digits.len() - at);
-        if !digits::decoded(&digits[at..to], &mut bytes) {
-            return Label { is: false, label };
+    for part in digits.chunks(2 * PART) {
+        if !digits::decoded(part, &mut bytes) {
+            return None;
         }
-        let n = (to - at) / 2;
-        d = lent::absorbed(d, &bytes[..n]);
-        at = to;
+        d = lent::absorbed(d, &bytes[..part.len() / 2]);
     }
-    let label = d.finish();
-    Label { is: true, label }
+    Some(d.finish())
 }
 
-// The digits of the next part, of those that are left.
-fn size(left: usize) -> usize
-    ensures { result ≡ min left 2000 }
-{
-    if left < 2000 { left } else { 2000 }
-}
+// How often the Monte Carlo test hashes.
+const TURNS: usize = 1000;
 
 // The digest that the Monte Carlo test publishes for a seed.
 pub fn turned(seed: [u8; 32]) -> [u8; 32]
     ensures { result ≡ monte seed }
 {
-    let mut a = seed;
-    let mut b = seed;
-    let mut c = seed;
-    let mut i: usize = 0;
-    while i < 1000 {
+    let (mut a, mut b, mut c) = (seed, seed, seed);
+    for _ in 0..TURNS {
         let next = joined(a, b, c);
-        a = b;
-        b = c;
-        c = next;
-        i += 1;
+        (a, b, c) = (b, c, next);
     }
     c
 }

@@ -1,9 +1,0 @@
--- `fips_cases::run` is safe and ends: the turns are counted down.
-use Rattle.text_lines.specs.Input.{Stands}
-use Rattle.fips_cases.proofs.run.Given as goal
-
-abbrev pub invariant-loop-turns : goal.invariant-loop-turns
-invariant-loop-turns g l = Stands l.r.from l.r.seen l.r.held
-
-abbrev pub decreases-loop-turns : goal.decreases-loop-turns
-decreases-loop-turns g l = l.turns
