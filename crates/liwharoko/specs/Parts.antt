@@ -1,5 +1,5 @@
 -- The lookup's finding in the form that C gets.
-use Rattle.lookup.specs.declared.held.Finding.{Finding}
+use Rattle.lookup.specs.Lookup.{Finding}
 use Rattle.liwharoko.specs.declared.Part.{Part}
 
 abbrev pub part_of : Finding → Part

@@ -5,7 +5,8 @@ ghost use Rattle.std.specs.Prelude.{◌≡◌};
 ghost use Rattle.sha256.specs.Sha256 as Sha256;
 ghost use Rattle.outcomes.specs.Outcome.{Leaves};
 ghost use Rattle.titles.specs.Compose.{compose_of, composed_text};
-ghost use Rattle.tables.specs.Tables.{table};
+ghost use Rattle.tables.specs.Tables as Tables;
+ghost use Rattle.tables.specs.Seen.{seen};
 ghost use Rattle.lookup.specs.Lookup.{lookup};
 ghost use Rattle.slips.specs.Check.{check_of};
 ghost use Rattle.pack.specs.Pack.{pack_of};
@@ -16,8 +17,10 @@ ghost use Rattle.liwharoko.specs.Parts.{part_of};
 
 use answers::Answer;
 use join::join;
-use lookup::{finding, holder};
+use lookup::held::Span;
+use lookup::{Found, finding, holder};
 use prune::prune;
+use tables::table::Table;
 use titles::Composed;
 
 // A part of the holder's values area: an exported function can't hand back a borrowed slice.
@@ -27,6 +30,39 @@ pub struct Part {
     pub holder: usize,
     pub start: usize,
     pub size: usize,
+}
+
+impl From<Option<Found>> for Part {
+    ghost use Rattle.std.specs.Prelude.{◌≡◌};
+    ghost use Rattle.lookup.specs.Lookup.{finding_of};
+    ghost use Rattle.liwharoko.specs.Parts.{part_of};
+
+    ghost from_gives = { λ f p. p ≡ part_of (finding_of f) };
+
+    fn from(found: Option<Found>) -> Part {
+        let (which, span) = match found {
+            Some(Found::First(span)) => (1, span),
+            Some(Found::Second(span)) => (2, span),
+            None => (0, Span { start: 0, size: 0 }),
+        };
+        Part {
+            holder: which,
+            start: span.start,
+            size: span.size,
+        }
+    }
+}
+
+// A table from its parts, as C lends them.
+fn table<'a>(types: &'a [u16], counts: &'a [u16], lengths: &'a [u16], values: &'a [u8]) -> Table<'a>
+    ensures { seen result ≡ Tables.table types.now counts.now lengths.now values.now }
+{
+    Table {
+        types,
+        counts,
+        lengths,
+        values,
+    }
 }
 
 #[unsafe(no_mangle)]
@@ -44,9 +80,9 @@ pub extern "C" fn liwharoko_pack(
     values: &[u8],
     out: &mut [u8],
 ) -> Answer
-    ensures { Leaves (pack_of Sha256.label composed_text (table types.now counts.now lengths.now values.now) out.old) result out.new }
+    ensures { Leaves (pack_of Sha256.label composed_text (Tables.table types.now counts.now lengths.now values.now) out.old) result out.new }
 {
-    pack::pack(types, counts, lengths, values, out)
+    pack::pack(table(types, counts, lengths, values), out)
 }
 
 #[unsafe(no_mangle)]
@@ -57,7 +93,7 @@ pub extern "C" fn liwharoko_unpack(
     lengths: &mut [u16],
     values: &mut [u8],
 ) -> Answer
-    ensures { Leaves (unpack_of Sha256.label composed_text slip.now (table types.old counts.old lengths.old values.old)) result (table types.new counts.new lengths.new values.new) }
+    ensures { Leaves (unpack_of Sha256.label composed_text slip.now (Tables.table types.old counts.old lengths.old values.old)) result (Tables.table types.new counts.new lengths.new values.new) }
 {
     unpack::unpack(slip, types, counts, lengths, values)
 }
@@ -89,16 +125,11 @@ pub extern "C" fn liwharoko_find(
     lengths2: &[u16],
     values2: &[u8],
 ) -> Part
-    ensures { result ≡ part_of (lookup kind (table types1.now counts1.now lengths1.now values1.now) (table types2.now counts2.now lengths2.now values2.now)) }
+    ensures { result ≡ part_of (lookup kind (Tables.table types1.now counts1.now lengths1.now values1.now) (Tables.table types2.now counts2.now lengths2.now values2.now)) }
 {
-    let f = finding(
-        kind, types1, counts1, lengths1, values1, types2, counts2, lengths2, values2,
-    );
-    Part {
-        holder: f.holder,
-        start: f.start,
-        size: f.size,
-    }
+    let first = table(types1, counts1, lengths1, values1);
+    let second = table(types2, counts2, lengths2, values2);
+    Part::from(finding(kind, first, second))
 }
 
 #[unsafe(no_mangle)]
@@ -113,11 +144,11 @@ pub extern "C" fn liwharoko_holder(
     lengths2: &[u16],
     values2: &[u8],
 ) -> usize
-    ensures { result ≡ (lookup kind (table types1.now counts1.now lengths1.now values1.now) (table types2.now counts2.now lengths2.now values2.now)).holder }
+    ensures { result ≡ (lookup kind (Tables.table types1.now counts1.now lengths1.now values1.now) (Tables.table types2.now counts2.now lengths2.now values2.now)).holder }
 {
-    holder(
-        kind, types1, counts1, lengths1, values1, types2, counts2, lengths2, values2,
-    )
+    let first = table(types1, counts1, lengths1, values1);
+    let second = table(types2, counts2, lengths2, values2);
+    holder(kind, first, second)
 }
 
 #[unsafe(no_mangle)]
