@@ -102,7 +102,8 @@ fn line<'a>(word: &[u8], title: &[u8], room: &'a mut [u8; ROOM]) -> Result<&'a [
     Ok(&room[..=end])
 }
 
-// The composed title's length; it stands at the front of `out`.
+// The composed title's length; it stands at the front of `out`. In a function of its own the composer's loop is faster.
+#[inline(never)]
 fn composed(title: &[u8], out: &mut [u8]) -> Result<usize, Refused>
     ensures { IfOk result (λ n. n ≤ 511) }
 {

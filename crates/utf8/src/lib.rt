@@ -53,6 +53,7 @@ fn code(a: u32, b: u32, c: u32, d: u32) -> Option<u32>
 }
 
 // The first character of some bytes. ASCII goes first, for speed: most characters are.
+#[inline(always)]
 pub fn first(s: &[u8]) -> Option<char>
     ensures { Reads (front s.now) result }
 {
