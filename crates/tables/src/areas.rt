@@ -1,5 +1,5 @@
 // How large the areas are that a call lends to the functions below it: small ones for small slips, and full ones.
-ghost use Rattle.std.specs.Prelude.{◌≡◌, ◌≤◌, ◌*◌, ◌+◌, length, take};
+ghost use Rattle.std.specs.Prelude.{◌≡◌, ◌≤◌, ◌*◌, ◌+◌, length, take, replicate};
 ghost use Rattle.trees.specs.Rules.{max_nodes, max_bytes};
 
 use crate::limits::Slip;
@@ -41,8 +41,11 @@ pub struct Areas<const NODES: usize, const BYTES: usize, const LABELS: usize> {
 }
 
 impl<const NODES: usize, const BYTES: usize, const LABELS: usize> Areas<NODES, BYTES, LABELS> {
+    // All zeros.
     pub fn new() -> Self
         requires { (NODES ≤ 2 * max_nodes) × (BYTES ≤ 2 * max_bytes + 32 * max_nodes) × (LABELS ≤ 64 * max_nodes) }
+        ensures columns { (result.types ≡ replicate NODES 0) × (result.counts ≡ replicate NODES 0) × (result.lengths ≡ replicate NODES 0) }
+        ensures bytes { (result.values ≡ replicate BYTES 0) × (result.labels ≡ replicate LABELS 0) }
     {
         Areas {
             types: [0u16; NODES],
