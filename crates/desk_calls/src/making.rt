@@ -12,7 +12,7 @@ use std::io::Write;
 pub fn pack(page: &mut impl Write, fields: &Fields<'_>) -> io::Result<()> {
     let mut buffer = [room::FILL; room::MOST];
     let out = room::first(&mut buffer, fields.number(4));
-    let a = pack::pack(table(fields, 0), out);
+    let a = pack::pack(table(fields, [0, 1, 2, 3]), out);
     told(page, &a, out)
 }
 
