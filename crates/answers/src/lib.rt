@@ -24,7 +24,7 @@ pub struct Answer {
 }
 
 const ZEROS: Answer = Answer {
-    number: 0,
+    number: Refusal::ACCEPTED,
     place: 0,
     second: 0,
     side: 0,
@@ -37,7 +37,7 @@ impl Answer {
     pub fn is_accepted(&self) -> bool
         ensures { result ≡ (self.now.number == accepted) }
     {
-        self.number == 0
+        self.number == Refusal::ACCEPTED
     }
 }
 

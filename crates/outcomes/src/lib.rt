@@ -13,7 +13,7 @@ pub fn refusals() -> [usize; 21]
     ensures { result ≡ accepted ∷ too_long ∷ cut_short ∷ other_edition ∷ no_nodes ∷ children_missing ∷ too_high ∷ salt_broken ∷ not_composed ∷ not_one_tree ∷ bad_padding ∷ no_room ∷ bad_list ∷ roots_differ ∷ clashing ∷ join_too_large ∷ bad_table ∷ title_long ∷ not_utf8 ∷ outside_repertoire ∷ loose_mark ∷ [] }
 {
     [
-        0,
+        Refusal::ACCEPTED,
         Refusal::TooLong.number(),
         Refusal::CutShort.number(),
         Refusal::OtherEdition.number(),

@@ -27,6 +27,9 @@ pub enum Refusal {
 }
 
 impl Refusal {
+    // The number where nothing is refused.
+    pub const ACCEPTED: usize = 0;
+
     // The number that document 01 gives it.
     pub fn number(self) -> usize
         ensures { result ≡ number_of self }
