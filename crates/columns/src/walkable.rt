@@ -6,7 +6,7 @@ use tables::table::Table;
 // A table, a label a row, and where each row's subtree and value start.
 #[derive(Clone, Copy)]
 pub struct Columns<'a> {
-    pub table: Table<'a>,
+    pub table: Table<'a, 'a>,
     pub labels: &'a [u8],
     pub starts: &'a [usize],
     pub offsets: &'a [usize],

@@ -37,7 +37,7 @@ fn found(rt: &impl System, kind: u16, i: usize) -> Result<bool, Said> {
 }
 
 // The lookup's second record is the same one.
-fn value_of<'a>(kind: u16, table: Table<'a>) -> Option<&'a [u8]> {
+fn value_of<'a>(kind: u16, table: Table<'a, 'a>) -> Option<&'a [u8]> {
     if lookup::holder(kind, table, table) == 0 {
         return None;
     }

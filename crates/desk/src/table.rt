@@ -25,7 +25,7 @@ impl Areas {
     }
 
     // The table of the slip that the file of argument i is.
-    pub fn unpack(&mut self, slip: &[u8], i: usize) -> Result<Table<'_>, Said> {
+    pub fn unpack(&mut self, slip: &[u8], i: usize) -> Result<Table<'_, '_>, Said> {
         let Areas {
             types,
             counts,

@@ -15,7 +15,7 @@ pub fn find(page: &mut impl Write, fields: &Fields<'_>) -> io::Result<()> {
 }
 
 // The table whose columns and values are four of the fields.
-pub fn table<'a>(fields: &'a Fields<'_>, places: [usize; 4]) -> Table<'a> {
+pub fn table<'a>(fields: &'a Fields<'_>, places: [usize; 4]) -> Table<'a, 'a> {
     let [types, counts, lengths, values] = places;
     Table {
         types: fields.column(types),

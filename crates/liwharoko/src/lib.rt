@@ -6,7 +6,7 @@ ghost use Rattle.sha256.specs.Sha256 as Sha256;
 ghost use Rattle.outcomes.specs.Outcome.{Leaves};
 ghost use Rattle.titles.specs.Compose.{compose_of, composed_text};
 ghost use Rattle.tables.specs.Tables as Tables;
-ghost use Rattle.tables.specs.Seen.{seen};
+ghost use Rattle.tables.specs.Tables.{seen};
 ghost use Rattle.lookup.specs.Lookup.{lookup};
 ghost use Rattle.slips.specs.Check.{check_of};
 ghost use Rattle.pack.specs.Pack.{pack_of};
@@ -54,7 +54,12 @@ impl From<Option<Found>> for Part {
 }
 
 // A table from its parts, as C lends them.
-fn table<'a>(types: &'a [u16], counts: &'a [u16], lengths: &'a [u16], values: &'a [u8]) -> Table<'a>
+fn table<'a>(
+    types: &'a [u16],
+    counts: &'a [u16],
+    lengths: &'a [u16],
+    values: &'a [u8],
+) -> Table<'a, 'a>
     ensures { seen result ≡ Tables.table types.now counts.now lengths.now values.now }
 {
     Table {

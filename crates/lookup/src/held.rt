@@ -1,7 +1,7 @@
 // What one table holds of a type.
 ghost use Rattle.std.specs.Prelude.{◌≡◌, ◌≤◌, length};
 ghost use Rattle.trees.specs.Rules.{max_nodes};
-ghost use Rattle.tables.specs.Seen.{seen};
+ghost use Rattle.tables.specs.Tables.{seen};
 ghost use Rattle.lookup.specs.Lookup.{spot_of, first_of, held_in};
 
 use tables::form;

@@ -4,7 +4,7 @@
 pub mod held;
 
 ghost use Rattle.std.specs.Prelude.{◌≡◌, ◌+◌, ◌≤◌, length};
-ghost use Rattle.tables.specs.Seen.{seen};
+ghost use Rattle.tables.specs.Tables.{seen};
 ghost use Rattle.lookup.specs.Lookup.{finding_of, lookup, PartOf, Handed};
 
 use held::Span;
@@ -36,7 +36,7 @@ fn part<'a>(area: &'a [u8], span: Span) -> &'a [u8]
 
 // The value of the first row of that type, as a part of the area that it lies in; the empty part at the start of the first
 // area where neither has it.
-pub fn find<'a>(kind: u16, first: Table<'a>, second: Table<'a>) -> &'a [u8]
+pub fn find<'a>(kind: u16, first: Table<'_, 'a>, second: Table<'_, 'a>) -> &'a [u8]
     ensures { Handed (lookup kind (seen first.entry) (seen second.entry)) first.entry.values second.entry.values result }
 {
     match finding(kind, first, second) {

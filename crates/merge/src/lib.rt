@@ -40,7 +40,7 @@ fn hand_out(
 fn merge_in<'a, const ROWS: usize>(
     first: usize,
     label: [u8; Slip::LABEL_BYTES],
-    t: Table<'a>,
+    t: Table<'a, 'a>,
     labels: &'a [u8],
     out: &mut [u8],
 ) -> Answer
@@ -70,7 +70,7 @@ fn merge_in<'a, const ROWS: usize>(
 pub fn merge<'a>(
     first: usize,
     label: [u8; Slip::LABEL_BYTES],
-    t: Table<'a>,
+    t: Table<'a, 'a>,
     labels: &'a [u8],
     out: &mut [u8],
 ) -> Answer

@@ -14,7 +14,7 @@ use tables::table::Table;
 const LABEL: usize = 4;
 
 // Draws the tree of a table; a slip has no more than 1,023 rows.
-pub fn draw(page: &mut impl Write, table: Table<'_>, labels: &[u8]) -> io::Result<()> {
+pub fn draw(page: &mut impl Write, table: Table<'_, '_>, labels: &[u8]) -> io::Result<()> {
     let n = table.counts.len();
     let mut order = [0u16; Slip::MAX_NODES];
     if n <= Slip::MAX_NODES {
@@ -27,7 +27,7 @@ pub fn draw(page: &mut impl Write, table: Table<'_>, labels: &[u8]) -> io::Resul
 }
 
 // The line of a row.
-fn line(page: &mut impl Write, table: Table<'_>, labels: &[u8], at: u16) -> io::Result<()> {
+fn line(page: &mut impl Write, table: Table<'_, '_>, labels: &[u8], at: u16) -> io::Result<()> {
     let depth = places::depth(table.counts, usize::from(at));
     let row = Row::at(table, usize::from(at));
     let label = label_of(labels, at, row);

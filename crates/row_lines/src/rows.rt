@@ -28,7 +28,7 @@ impl<'a> Row<'a> {
     }
 
     // A row of a table by its number.
-    pub fn at(table: Table<'a>, row: usize) -> Self {
+    pub fn at(table: Table<'a, 'a>, row: usize) -> Self {
         let start = parts::start(table.values, table.lengths, row);
         let end = parts::end(table.values, start, parts::cell(table.lengths, row));
         Row::new(

@@ -6,7 +6,7 @@ use std::io::Write;
 use tables::limits::Slip;
 use tables::table::Table;
 
-pub fn write(page: &mut impl Write, table: Table<'_>) -> io::Result<()> {
+pub fn write(page: &mut impl Write, table: Table<'_, '_>) -> io::Result<()> {
     let mut rest = table.values;
     for ((kind, count), length) in table.types.iter().zip(table.counts).zip(table.lengths) {
         let end = parts::end(rest, 0, usize::from(*length));

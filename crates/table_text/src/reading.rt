@@ -80,7 +80,7 @@ impl Rows {
         Ok(())
     }
 
-    pub fn table(&self) -> Table<'_>
+    pub fn table(&self) -> Table<'_, '_>
         ensures types { result.types.now ≡ take self.now.rows self.now.types }
         ensures counts { result.counts.now ≡ take self.now.rows self.now.counts }
         ensures lengths { result.lengths.now ≡ take self.now.rows self.now.lengths }

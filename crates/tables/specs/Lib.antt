@@ -3,7 +3,6 @@ pub mod Limits
 pub mod Measure
 pub mod Areas
 pub mod Tables
-pub mod Seen
 pub mod Cells
 pub mod PruningList
 pub mod ListRule

@@ -2,6 +2,7 @@
 use Rattle.std.specs.Prelude.{ℕ, zero, suc, ◌+◌, ◌≤◌, Bool, not, cond, ◌&&◌, ◌||◌, List, [], ◌∷◌, ◌≡◌, leb, ltb, eqb, length, take, drop}
 use Rattle.trees.specs.Rules.{max_type, max_value, max_children, label_bytes, max_nodes}
 use Rattle.trees.specs.Rows.{Entry, node, tip}
+use Rattle.tables.specs.declared.table.Table as code
 
 -- a row as an entry: one that names children is an internal node, any other a leaf with its part of the area
 abbrev pub entry_of : ℕ → ℕ → List ℕ → Entry
@@ -52,6 +53,10 @@ pub record Table : Type 0 where
 
 abbrev pub table : List ℕ → List ℕ → List ℕ → List ℕ → Table
 table ts cs ls vs = record { types = ts; counts = cs; lengths = ls; values = vs }
+
+-- the code's table as the definitions see it
+abbrev pub seen : code.Table → Table
+seen t = table t.types.now t.counts.now t.lengths.now t.values.now
 
 -- none of "columns unequal or over 1,023 rows"
 unfoldable pub columns_fit : List ℕ → List ℕ → List ℕ → Bool

@@ -57,7 +57,7 @@ impl<const NODES: usize, const BYTES: usize, const LABELS: usize> Areas<NODES, B
     }
 
     // The table of the first rows and of the bytes that they take.
-    pub fn table(&self, rows: usize, used: usize) -> Table<'_>
+    pub fn table(&self, rows: usize, used: usize) -> Table<'_, '_>
         requires { (rows ≤ NODES) × (used ≤ BYTES) }
         ensures types { result.types.now ≡ take rows self.now.types }
         ensures counts { result.counts.now ≡ take rows self.now.counts }

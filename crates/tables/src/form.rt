@@ -2,8 +2,7 @@
 ghost use Rattle.std.specs.Prelude.{◌≡◌, ◌≤◌, ◌<◌, length, get_or, unwrap_or, IfSome};
 ghost use Rattle.trees.specs.Rules.{max_nodes};
 ghost use Rattle.tables.specs.Tables as Tables;
-ghost use Rattle.tables.specs.Tables.{row_fits, first_bad, columns_fit, table_fits};
-ghost use Rattle.tables.specs.Seen.{seen};
+ghost use Rattle.tables.specs.Tables.{row_fits, first_bad, columns_fit, table_fits, seen};
 
 use crate::limits::Slip;
 use crate::table::Table;

@@ -4,8 +4,7 @@ use Rattle.outcomes.specs.Refusals.{accepted}
 use Rattle.outcomes.specs.declared.numbers.Refused.{Refused}
 use Rattle.trees.specs.Rules.{no_label}
 use Rattle.outcomes.specs.RefusalsLaws.{numbered}
-use Rattle.tables.specs.Seen.{seen}
-use Rattle.tables.specs.Tables.{Table, Formed}
+use Rattle.tables.specs.Tables.{Table, Formed, seen}
 use Rattle.codec.specs.Writing.{slip_of}
 use Rattle.answers.specs.declared.Answer.{Answer}
 use Rattle.answers.specs.Answers.{refused, taken, refusal_answer}

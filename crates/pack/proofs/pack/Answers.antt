@@ -2,7 +2,7 @@ use Rattle.std.proofs.Common.{ℕ, Ok, Err, Result, is_ok, true, false, true≢f
 use Rattle.outcomes.specs.Refusals.{accepted}
 use Rattle.outcomes.specs.declared.numbers.Refused.{Refused}
 use Rattle.outcomes.specs.RefusalsLaws.{numbered}
-use Rattle.tables.specs.Seen.{seen}
+use Rattle.tables.specs.Tables.{seen}
 use Rattle.codec.specs.Writing.{slip_of}
 use Rattle.answers.specs.declared.Accepted.{Accepted}
 use Rattle.answers.specs.declared.Answer.{Answer}

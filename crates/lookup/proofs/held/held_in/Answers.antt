@@ -1,5 +1,5 @@
 use Rattle.std.proofs.Common.{sym, ◌∙◌}
-use Rattle.tables.specs.Seen.{seen}
+use Rattle.tables.specs.Tables.{seen}
 use Rattle.tables.specs.TablesLaws.{table_told}
 use Rattle.lookup.proofs.Rows.{unfit_held, zero_held}
 use Rattle.lookup.proofs.held.held_in.Goals as goal
