@@ -7,9 +7,9 @@ ghost use Rattle.bits.specs.InkLaws.{start};
 // The bytes before `at` are written; the last `held` bits, which fill no byte yet, are the number `acc`.
 #[derive(Drop)]
 pub struct Pen {
-    acc: usize,
-    held: usize,
-    at: usize,
+    pub acc: usize,
+    pub held: usize,
+    pub at: usize,
 }
 
 impl Pen {
