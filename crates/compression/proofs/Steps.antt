@@ -44,16 +44,18 @@ schedule_more m t after w u few e begun q =
       first = rw (q, n, at, ← same) (filled w t after (following sha256 w t) (omega arith) e begun.first);
     }
 
--- one round more
+-- one round more, with the constants as the code has them
 pub rounds_more :
-    (h w : List ℕ) (t after : ℕ) (v u : List ℕ)
+    (h w : List ℕ) {k : List ℕ}
+    → k ≡ constants
+    → (t after : ℕ) (v u : List ℕ)
     → t < 64
     → after ≡ suc t
     → v ≡ rounds sha256 t h w
-    → u ≡ round sha256 v (get_or constants t 0) (get_or w t 0)
+    → u ≡ round sha256 v (get_or k t 0) (get_or w t 0)
     → u ≡ rounds sha256 after h w
 unfolding rounds
-rounds_more h w t after v u few e p q = rw (e, q, p)
+rounds_more h w c t after v u few e p q = rw (e, q, p, c)
 
 -- What each step keeps, a turn of eight keeps: the schedule and the rounds go eight a turn.
 pub eight :

@@ -1,7 +1,7 @@
 // The words of SHA-256: FIPS 180-4, the functions of sections 3.2 and 4.1.2 and the constants of 4.2.2.
 #![tactic(auto)]
 
-ghost use Rattle.std.specs.Prelude.{◌≡◌, ◌<◌, slice_index};
+ghost use Rattle.std.specs.Prelude.{◌≡◌, ◌<◌};
 ghost use Rattle.words.specs.Words.{ch, maj, number};
 ghost use Rattle.words.specs.Sha256.{three, two, constants};
 
@@ -77,11 +77,10 @@ static K: [u32; 64] = [
     0x748f82ee, 0x78a5636f, 0x84c87814, 0x8cc70208, 0x90befffa, 0xa4506ceb, 0xbef9a3f7, 0xc67178f2,
 ];
 
-// The round's constant.
+// The constants, lent once for all blocks of a text.
 #[tactic(auto, unfolding(crate::specs::Sha256::constants))]
-pub fn constant(t: usize) -> u32
-    requires { t < 64 }
-    ensures { result ≡ slice_index constants t }
+pub fn table() -> &'static [u32; 64]
+    ensures { result.now ≡ constants }
 {
-    K[t]
+    &K
 }

@@ -9,7 +9,7 @@ loop-turn-init c = refl
 
 pub loop-turn-preserved : goal.loop-turn-preserved
 loop-turn-preserved c =
-    eight (rounds_more _ _) c.loop-turn.turn (omega arith) c.loop-turn.invariant
+    eight (rounds_more _ _ c.requires) c.loop-turn.turn (omega arith) c.loop-turn.invariant
     c.round.ensures
     c.round-in-loop-turn.ensures
     c.round-in-loop-turn-2.ensures
