@@ -22,7 +22,7 @@ use Rattle.codec.specs.Reader.{RowIs, RowGives}
 use Rattle.codec.specs.declared.row.Row.{Row}
 
 -- what is read from a later bit
-gives_from : (s : List ℕ) (at later : ℕ) (x y : Read) (r : Option Row) → at ≤ later → x ≡ y → RowGives s later y r → RowGives s at x r
+pub gives_from : (s : List ℕ) (at later : ℕ) (x y : Read) (r : Option Row) → at ≤ later → x ≡ y → RowGives s later y r → RowGives s at x r
 gives_from s at later x y None h e g = e ∙ g
 gives_from s at later x y (Some r) h e i =
     record { entry = e ∙ i.entry; form = i.form; onward = le_trans h i.onward; fits = i.fits }

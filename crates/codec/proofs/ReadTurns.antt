@@ -1,11 +1,10 @@
 -- The reader's loop: what holds at each turn, one turn, and its two ends.
 use mathlib.Core.Path.{◌≡◌, refl, sym, ap, subst, ◌∙◌}
-use mathlib.Core.Bool.{Bool, true, false}
 use mathlib.Core.List.{List, [], ◌∷◌, ◌++◌, append_assoc, append-nil}
 use Prim.Native.Nat.{ℕ, suc, ◌+◌, ◌-◌, ◌*◌, ◌≤◌, ◌<◌}
 use native.Mathlib.Numerals.{add-one}
 use native.Mathlib.Omega.{arith}
-use Rattle.std.specs.Prelude.{Option, None, Some}
+use Rattle.std.specs.Prelude.{Result, Ok, Err, is_ok}
 use lib.ListN.{length, take, drop, set, length-append, length-drop}
 use lib.Seq.{take-suc-set, take_at, length-take-le, append_snoc}
 use Rattle.bits.specs.Bits.{bits_of, octets}
@@ -16,7 +15,7 @@ use Rattle.tables.specs.TablesLaws.{length_entries}
 use Rattle.codec.specs.Reading.{Read, short, read_one, Reading, add, after, read_all}
 use Rattle.codec.specs.TableLaws.{entries_snoc, sum_snoc, form_snoc}
 use Rattle.tables.specs.Limits.{header_bits}
-use Rattle.codec.specs.Reader.{RowIs, RestIs, FillAsks, FillGives}
+use Rattle.codec.specs.Reader.{RowIs, stop, FillAsks, FillGives}
 use Rattle.codec.specs.declared.row.Row.{Row}
 
 -- rows read before
@@ -47,12 +46,6 @@ started s n T C L W a =
 -- a cell is stored behind the first i
 stored : (c : List ℕ) (i x : ℕ) → i < length c → take (i + 1) (set c i x) ≡ take i c ++ (x ∷ [])
 stored c i x h = ap (λ (k : ℕ). take k (set c i x)) (add-one i) ∙ take-suc-set c i x h
-
--- what is told of the rest looks at no rows
-rest_of : (s : List ℕ) (es : List Entry) (b : List ℕ) (r : Option ℕ) (w : Bool)
-    → RestIs s (record { rows = []; rest = b; whole = w }) r → RestIs s (record { rows = es; rest = b; whole = w }) r
-rest_of s es b None w f = f
-rest_of s es b (Some at) w f = f
 
 module _ {s : List ℕ} {n : ℕ} {T C L W : List ℕ} {at used i : ℕ} (g : Going s n T C L W at used i) where
   -- a turn
@@ -112,14 +105,13 @@ module _ {s : List ℕ} {n : ℕ} {T C L W : List ℕ} {at used i : ℕ} (g : Go
       }
 
   -- the end, where the bits from `at` on give nothing more
-  ended : (w : Bool) (r : Option ℕ) → n ≤ length T → n ≤ length C → n ≤ length L → length s ≤ length W
-      → read_all (n - i) (drop at (bits_of s)) ≡ record { rows = []; rest = drop at (bits_of s); whole = w }
-      → RestIs s (record { rows = []; rest = drop at (bits_of s); whole = w }) r
+  ended : (r : Result ℕ ℕ) → stop r ≡ at → n ≤ length T → n ≤ length C → n ≤ length L → length s ≤ length W
+      → read_all (n - i) (drop at (bits_of s)) ≡ record { rows = []; rest = drop at (bits_of s); whole = is_ok r }
       → FillGives s n (read_all n (drop header_bits (bits_of s))) (record { rows = i; used = used; rest = r }) T C L W
-  ended w r hT hC hL hW e f =
+  ended r here hT hC hL hW e =
       let before : List Entry = entries (take i T) (take i C) (take i L) (take used W) in
       let x : Reading = read_all n (drop header_bits (bits_of s)) in
-      let end : x ≡ record { rows = before ++ []; rest = drop at (bits_of s); whole = w } = g.left ∙ ap (adds before) e in
+      let end : x ≡ record { rows = before ++ []; rest = drop at (bits_of s); whole = is_ok r } = g.left ∙ ap (adds before) e in
       let rows : before ≡ x.rows = sym (ap (λ (y : Reading). y.rows) end ∙ append-nil before) in
       let l_t : length (take i T) ≡ i = length-take-le i T (omega (arith, g.few)) in
       let l_c : length (take i C) ≡ i = length-take-le i C (omega (arith, g.few)) in
@@ -128,30 +120,31 @@ module _ {s : List ℕ} {n : ℕ} {T C L W : List ℕ} {at used i : ℕ} (g : Go
         rows = rows;
         count = sym (ap length (sym rows) ∙ length_entries (take i T) (take i C) (take i L) (take used W) (l_c ∙ sym l_t) (l_l ∙ sym l_t) ∙ l_t);
         few = g.few;
-        rest = subst (λ (y : Reading). RestIs s y r) (sym end) (rest_of s (before ++ []) (drop at (bits_of s)) r w f);
+        whole = sym (ap (λ (y : Reading). y.whole) end);
+        rest = ap (λ (k : ℕ). drop k (bits_of s)) here ∙ sym (ap (λ (y : Reading). y.rest) end);
+        within = omega (arith, g.within);
         form = g.form;
         used = g.sums;
-        packed = omega (arith, g.packed, g.within);
+        packed = omega (arith, g.packed);
         room = omega (arith, g.packed, g.within);
       }
 
   -- all that were asked for are read
   pub ended_whole : n ≤ i → n ≤ length T → n ≤ length C → n ≤ length L → length s ≤ length W
-      → FillGives s n (read_all n (drop header_bits (bits_of s))) (record { rows = n; used = used; rest = Some at }) T C L W
+      → FillGives s n (read_all n (drop header_bits (bits_of s))) (record { rows = n; used = used; rest = Ok at }) T C L W
   unfolding read_all
   ended_whole h hT hC hL hW =
       let all : i ≡ n = omega (arith, g.few) in
       let none : n - i ≡ 0 = omega arith in
-      subst (λ (k : ℕ). FillGives s n (read_all n (drop header_bits (bits_of s))) (record { rows = k; used = used; rest = Some at }) T C L W) all
-      (ended true (Some at) hT hC hL hW (ap (λ (k : ℕ). read_all k (drop at (bits_of s))) none) (refl, refl, g.within))
+      subst (λ (k : ℕ). FillGives s n (read_all n (drop header_bits (bits_of s))) (record { rows = k; used = used; rest = Ok at }) T C L W) all
+      (ended (Ok at) refl hT hC hL hW (ap (λ (k : ℕ). read_all k (drop at (bits_of s))) none))
 
   -- the bits end inside an entry
   pub ended_short : i < n → read_one (drop at (bits_of s)) ≡ short → n ≤ length T → n ≤ length C → n ≤ length L → length s ≤ length W
-      → FillGives s n (read_all n (drop header_bits (bits_of s))) (record { rows = i; used = used; rest = None }) T C L W
+      → FillGives s n (read_all n (drop header_bits (bits_of s))) (record { rows = i; used = used; rest = Err at }) T C L W
   unfolding read_all
   ended_short h e hT hC hL hW =
       let count : n - i ≡ suc (n - (i + 1)) = omega arith in
-      ended false None hT hC hL hW
+      ended (Err at) refl hT hC hL hW
       (ap (λ (k : ℕ). read_all k (drop at (bits_of s))) count
       ∙ ap (λ (y : Read). after y (drop at (bits_of s)) (λ z. read_all (n - (i + 1)) z)) e)
-      refl

@@ -1,5 +1,5 @@
 -- What the reader asks and gives.
-use Rattle.std.specs.Prelude.{◌≡◌, true, false, List, ℕ, ◌+◌, ◌*◌, ◌≤◌, ◌<◌, Option, None, Some, length, take, drop}
+use Rattle.std.specs.Prelude.{◌≡◌, true, List, ℕ, ◌+◌, ◌*◌, ◌≤◌, ◌<◌, Option, None, Some, Result, Ok, Err, is_ok, length, take, drop}
 use Rattle.bits.specs.Bits.{bits_of, octets}
 use Rattle.bits.specs.Reads.{FieldGives}
 use Rattle.trees.specs.Rules.{max_nodes, max_bytes}
@@ -35,18 +35,20 @@ pub record FillAsks (s : List ℕ) (n : ℕ) (types counts lengths values : List
   pub lengths_room : n ≤ length lengths
   pub values_room : length s ≤ length values
 
--- where all of x that was asked for is there, the bit behind it
-abbrev pub RestIs : List ℕ → Reading → Option ℕ → Type 0
-RestIs s x None = x.whole ≡ false
-RestIs s x (Some at) = (x.whole ≡ true) × (drop at (bits_of s) ≡ x.rest) × (at ≤ 8 * length s)
+-- the bit at which a reading stopped, whether all that was asked for was there or not
+abbrev pub stop : Result ℕ ℕ → ℕ
+stop (Ok at) = at
+stop (Err at) = at
 
--- the table holds the rows x that were read
+-- the table holds the rows x that were read, and the reading stopped behind them
 pub record FillGives (s : List ℕ) (n : ℕ) (x : Reading) (r : Filled) (types counts lengths values : List ℕ) : Type 0 where
   pub rows : entries (take r.rows types) (take r.rows counts) (take r.rows lengths) (take r.used values) ≡ x.rows
   pub count : r.rows ≡ length x.rows
   pub few : r.rows ≤ n
-  pub rest : RestIs s x r.rest
+  pub whole : is_ok r.rest ≡ x.whole
+  pub rest : drop (stop r.rest) (bits_of s) ≡ x.rest
+  pub within : stop r.rest ≤ 8 * length s
   pub form : first_bad 0 (take r.rows types) (take r.rows counts) (take r.rows lengths) ≡ r.rows
   pub used : r.used ≡ sum (take r.rows lengths)
-  pub packed : r.used ≤ length s
+  pub packed : 8 * r.used ≤ stop r.rest
   pub room : r.used ≤ length values

@@ -8,12 +8,12 @@ ghost use Rattle.codec.specs.Reader.{FillAsks, FillGives};
 use crate::row::Reader;
 use tables::limits::Slip;
 
-// How many rows and bytes of values were read, and where all that were asked for were there the bit behind them.
+// How many rows and bytes of values were read, and the bit behind them: Ok where all that were asked for were there, else Err.
 #[derive(Clone, Copy)]
 pub struct Filled {
     pub rows: usize,
     pub used: usize,
-    pub rest: Option<usize>,
+    pub rest: Result<usize, usize>,
 }
 
 // Reads up to n entries behind the header of s, while the bits last. The columns are lent as slices, as a slip is opened.
@@ -35,7 +35,7 @@ pub fn fill(
             return Filled {
                 rows: i,
                 used,
-                rest: None,
+                rest: Err(at),
             };
         };
         let end = used + row.length;
@@ -49,6 +49,6 @@ pub fn fill(
     Filled {
         rows: n,
         used,
-        rest: Some(at),
+        rest: Ok(at),
     }
 }

@@ -1,5 +1,5 @@
 -- What was read and what the engine tells of it, put together.
-use Prim.Native.Nat.{ℕ, ◌≤◌, ◌*◌}
+use Prim.Native.Nat.{ℕ, ◌≤◌}
 use mathlib.Core.List.{List}
 use mathlib.Core.Path.{◌≡◌, sym, ap, ◌∙◌, subst}
 use native.Mathlib.Omega.{arith}
@@ -10,14 +10,14 @@ use Rattle.trees.specs.Rows.{Entry, verdict}
 use Rattle.tables.specs.Tables.{entries, table}
 use Rattle.codec.specs.Reading.{Reading, read_all}
 use Rattle.tables.specs.Limits.{header_bits}
-use Rattle.codec.specs.Reader.{FillGives, RestIs}
+use Rattle.codec.specs.Reader.{stop, FillGives}
 use Rattle.codec.specs.declared.fill.Filled.{Filled}
 use Rattle.engine.specs.Engine.{told, judged_seen, RowsLabelled}
 use Rattle.engine.specs.Judging.{JudgeAsks, JudgeGives}
 use Rattle.engine.specs.declared.judge.Judged.{Judged}
 use Rattle.outcomes.specs.declared.numbers.Refused.{Refused}
 use Rattle.answers.specs.declared.Accepted.{Accepted}
-use Rattle.std.specs.Prelude.{Result, Option, Some, None, IfSome}
+use Rattle.std.specs.Prelude.{Result, is_ok}
 use Rattle.sha256.specs.Sha256 as Sha256
 use Rattle.titles.specs.Compose.{composed_text}
 use Rattle.answers.specs.Answers.{answer_of}
@@ -52,14 +52,9 @@ module _ {s : List ℕ} {n : ℕ} {types₀ counts₀ lengths₀ values₀ label
                 rows = f.form ∙ sym ts;
                 area = omega (arith, f.used);
               };
-          short = omega (arith, f.used, f.packed, p.long);
+          short = omega (arith, f.used, f.packed, f.within, p.long);
           labels_room = omega (arith, f.few, p.labels_room);
         }
-
--- the bit behind the entries lies in the slip
-pub rest_in : (s : List ℕ) (x : Reading) (o : Option ℕ) → RestIs s x o → IfSome o (λ at. at ≤ 8 * length s)
-rest_in s x None q = tt
-rest_in s x (Some at) q = q.2
 
 module _ (s : List ℕ) (n : ℕ) (counted : n ≡ count_of s) {r : Filled} {types counts lengths values : List ℕ}
     (f : FillGives s n (read_all n (drop header_bits (bits_of s))) r types counts lengths values)
@@ -76,14 +71,15 @@ module _ (s : List ℕ) (n : ℕ) (counted : n ≡ count_of s) {r : Filled} {typ
     told_as = g.answer ∙ ap (λ (es : List Entry). told (verdict Sha256.label composed_text es)) rows_are
 
     pub opened : {a : Result Accepted Refused}
-        → ((x : Reading) → RestIs s x r.rest → answer_of a ≡ settled_by (length s) r.rows x.whole x.rest (judged_seen j))
+        → answer_of a ≡ settled_by (length s) r.rows (is_ok r.rest) (drop (stop r.rest) (bits_of s)) (judged_seen j)
         → OpenGives s (record { answer = a; rows = r.rows; used = r.used }) types counts lengths values labels
     unfolding body_of
     opened e =
         let count : r.rows ≡ length (reading_of s).rows = f.count ∙ ap (λ (x : Reading). length x.rows) reading in
-        let behind : RestIs s (reading_of s) r.rest = subst (λ (x : Reading). RestIs s x r.rest) reading f.rest in
+        let whole = f.whole ∙ ap (λ (x : Reading). x.whole) reading in
+        let rest = f.rest ∙ ap (λ (x : Reading). x.rest) reading in
         record {
-          answer = e (reading_of s) behind ∙ rw (count, told_as) (settled_told Sha256.label composed_text (length s) (reading_of s) (reading_of s).rows);
+          answer = e ∙ rw (count, whole, rest, told_as) (settled_told Sha256.label composed_text (length s) (reading_of s) (reading_of s).rows);
           count = count;
           rows = rows_are;
           formed = f.form;

@@ -2,7 +2,7 @@
 use Prim.Native.Nat.{ℕ, ◌*◌, ◌-◌, ◌≤◌, ◌<◌}
 use mathlib.Core.Bool.{Bool, true, false}
 use mathlib.Core.List.{List}
-use mathlib.Core.Path.{◌≡◌, sym, ap, ◌∙◌, subst}
+use mathlib.Core.Path.{◌≡◌, sym, ap, ◌∙◌}
 use native.Mathlib.Omega.{arith}
 use borrow.Author.Tests.{lt-ltb, le-ltb, ne_eqb}
 use lib.Dec.{eqb}
@@ -10,12 +10,11 @@ use lib.ListN.{length, take, drop, length-drop}
 use lib.Seq.{take_all}
 use Rattle.bits.specs.Bits.{bits_of, num_of}
 use Rattle.bits.specs.ByteLaws.{length_bits_of}
-use Rattle.std.specs.Prelude.{Result, Ok, Err, Option, Some, None}
+use Rattle.std.specs.Prelude.{Result, Ok, Err, is_ok, Some, None}
 use Rattle.outcomes.specs.Refusals.{accepted, cut_short, not_one_tree, bad_padding, number_of}
 use Rattle.outcomes.specs.declared.numbers.Refused.{Refused}
 use Rattle.outcomes.specs.RefusalsLaws.{numbered}
-use Rattle.codec.specs.Reading.{Reading}
-use Rattle.codec.specs.Reader.{RestIs}
+use Rattle.codec.specs.Reader.{stop}
 use Rattle.engine.specs.declared.judge.Judged.{Judged}
 use Rattle.engine.specs.Engine.{judged_seen}
 use Rattle.answers.specs.Answers.{refused, taken, refusal_answer}
@@ -49,26 +48,23 @@ told_faulty n rows whole rest {j} {r} e =
     sym (rw (e, ne_eqb (number_of r.refusal) accepted (numbered r.refusal)))
 
 -- else the tests, over what was read and the root
-module _ (s : List ℕ) (rows : ℕ) (x : Reading) {j : Result Judged Refused} {o : Option ℕ} {d : Judged} (e : j ≡ Ok d) where
-  pub told_cut : o ≡ None → RestIs s x o → refused cut_short rows ≡ settled_by (length s) rows x.whole x.rest (judged_seen j)
+module _ (s : List ℕ) (rows : ℕ) {j : Result Judged Refused} {r : Result ℕ ℕ} {d : Judged} (e : j ≡ Ok d) where
+  pub told_cut : {at : ℕ} → r ≡ Err at → refused cut_short rows ≡ settled_by (length s) rows (is_ok r) (drop (stop r) (bits_of s)) (judged_seen j)
   unfolding settled_by
-  told_cut k q =
-      let cut : x.whole ≡ false = subst (RestIs s x) k q in
-      sym (rw (e, cut))
+  told_cut k = sym (rw (e, k))
 
-  module _ {at : ℕ} (k : o ≡ Some at) (q : RestIs s x o) where
-    all : (x.whole ≡ true) × (drop at (bits_of s) ≡ x.rest) × (at ≤ 8 * length s)
-    all = subst (RestIs s x) k q
-
-    pub told_many : d.root ≡ None → refused not_one_tree 0 ≡ settled_by (length s) rows x.whole x.rest (judged_seen j)
+  module _ {at : ℕ} (k : r ≡ Ok at) where
+    pub told_many : d.root ≡ None → refused not_one_tree 0 ≡ settled_by (length s) rows (is_ok r) (drop (stop r) (bits_of s)) (judged_seen j)
     unfolding settled_by
-    told_many h = sym (rw (e, all.0, h))
+    told_many h = sym (rw (e, k, h))
 
     module _ {label : List ℕ} (h : d.root ≡ Some label) where
-      pub told_padding : padding_fits (drop at (bits_of s)) ≡ false → refused bad_padding 0 ≡ settled_by (length s) rows x.whole x.rest (judged_seen j)
+      pub told_padding : padding_fits (drop at (bits_of s)) ≡ false
+          → refused bad_padding 0 ≡ settled_by (length s) rows (is_ok r) (drop (stop r) (bits_of s)) (judged_seen j)
       unfolding settled_by
-      told_padding p = sym (rw (e, all.0, h, ← all.1, p))
+      told_padding p = sym (rw (e, k, h, p))
 
-      pub told_taken : padding_fits (drop at (bits_of s)) ≡ true → taken (length s) d.blocks label ≡ settled_by (length s) rows x.whole x.rest (judged_seen j)
+      pub told_taken : padding_fits (drop at (bits_of s)) ≡ true
+          → taken (length s) d.blocks label ≡ settled_by (length s) rows (is_ok r) (drop (stop r) (bits_of s)) (judged_seen j)
       unfolding settled_by
-      told_taken p = sym (rw (e, all.0, h, ← all.1, p))
+      told_taken p = sym (rw (e, k, h, p))

@@ -1,9 +1,8 @@
 // A slip opened: its table read, judged and settled, in areas that the caller lends.
-ghost use Rattle.std.specs.Prelude.{◌≡◌, ◌*◌, ◌≤◌, length, drop, IfSome};
+ghost use Rattle.std.specs.Prelude.{◌≡◌, ◌*◌, ◌≤◌, length, drop, is_ok};
 ghost use Rattle.bits.specs.Bits.{bits_of};
 ghost use Rattle.trees.specs.Rules.{max_bytes};
-ghost use Rattle.codec.specs.Reading.{Reading};
-ghost use Rattle.codec.specs.Reader.{RestIs};
+ghost use Rattle.codec.specs.Reader.{stop};
 ghost use Rattle.engine.specs.Engine.{judged_seen};
 ghost use Rattle.answers.specs.Answers.{answer_of};
 ghost use Rattle.slips.specs.Check.{padding_fits};
@@ -37,11 +36,11 @@ fn padding_fits(s: &[u8], at: usize) -> bool
 
 // What was read and what the engine tells of it, in the document's order.
 fn settled(s: &[u8], f: Filled, judged: Result<Judged, Refused>) -> Result<Accepted, Refused>
-    requires { (length s.now ≤ max_bytes) × IfSome f.rest (λ at. at ≤ 8 * length s.now) }
-    ensures { (x : Reading) → RestIs s.now x f.rest → answer_of result ≡ settled_by (length s.now) f.rows x.whole x.rest (judged_seen judged) }
+    requires { (length s.now ≤ max_bytes) × (stop f.rest ≤ 8 * length s.now) }
+    ensures { answer_of result ≡ settled_by (length s.now) f.rows (is_ok f.rest) (drop (stop f.rest) (bits_of s.now)) (judged_seen judged) }
 {
     let judged = judged?;
-    let Some(at) = f.rest else {
+    let Ok(at) = f.rest else {
         return Err(Refusal::CutShort.at(f.rows));
     };
     let Some(label) = judged.root else {
