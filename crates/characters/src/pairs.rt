@@ -1,7 +1,7 @@
 // The pairs of a letter and a mark that compose within the repertoire.
-ghost use Rattle.std.specs.Prelude.{◌≡◌, ◌==◌, ◌&&◌, find};
+ghost use Rattle.std.specs.Prelude.{◌≡◌, ◌==◌, find};
 ghost use Rattle.std.specs.Option.{option_map};
-ghost use Rattle.characters.specs.Clauses.{Joins};
+ghost use Rattle.characters.specs.Clauses.{Joins, RowsOf};
 
 // Letter, mark and composed letter: by mark, then by letter. `tools/tables code` prints the rows.
 static PAIRS: [(char, char, char); 53] = [
@@ -60,18 +60,32 @@ static PAIRS: [(char, char, char); 53] = [
     ('c', '\u{327}', 'ç'),
 ];
 
-// The letter that a letter and a mark compose to.
-pub fn composite(letter: char, mark: char) -> Option<char>
+// The letter that a letter and a mark compose to. The mark's rows alone are searched, by the letter.
+pub fn composite(letter: u32, mark: u32) -> Option<char>
     ensures { Joins letter mark result }
 {
-    sought(&PAIRS, letter, mark)
+    sought(rows_of(mark), letter)
 }
 
-// What they compose to in some rows.
-fn sought(rows: &[(char, char, char)], letter: char, mark: char) -> Option<char>
-    ensures { result ≡ option_map (λ p. p.2) (find (λ p. (p.1 == mark) && (p.0 == letter)) rows.now) }
+// The rows of a mark.
+fn rows_of(mark: u32) -> &'static [(char, char, char)]
+    ensures { RowsOf mark result.now }
 {
-    rows.iter()
-        .find(|p| p.1 == mark && p.0 == letter)
-        .map(|p| p.2)
+    match mark {
+        0x300 => &PAIRS[..10],
+        0x301 => &PAIRS[10..22],
+        0x302 => &PAIRS[22..32],
+        0x303 => &PAIRS[32..38],
+        0x308 => &PAIRS[38..49],
+        0x30A => &PAIRS[49..51],
+        0x327 => &PAIRS[51..],
+        _ => &[],
+    }
+}
+
+// What a letter composes to in the rows of one mark.
+fn sought(rows: &[(char, char, char)], letter: u32) -> Option<char>
+    ensures { result ≡ option_map (λ p. p.2) (find (λ p. p.0 == letter) rows.now) }
+{
+    rows.iter().find(|p| u32::from(p.0) == letter).map(|p| p.2)
 }

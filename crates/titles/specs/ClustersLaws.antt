@@ -52,7 +52,7 @@ lead b t p q =
     let f = rw (encode_2 m (omega arith) (omega arith)) at e in
     omega (arith, ap (λ (l : List ℕ). get_or l 0 0) f)
 
-no_mark : (l : ℕ) (s : List ℕ) → (get_or s 0 0 ≡ 0xCC → ⊥) → joined l (front s) ≡ 0
+pub no_mark : (l : ℕ) (s : List ℕ) → (get_or s 0 0 ≡ 0xCC → ⊥) → joined l (front s) ≡ 0
 no_mark l [] off = eqb-true _ 0 (either (eqb (joined l (front [])) 0) (λ p. p) (λ p. absurd (omega (arith, joins_some l [] p))))
 no_mark l (b ∷ t) off =
     eqb-true _ 0

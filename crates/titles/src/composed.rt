@@ -2,7 +2,7 @@
 ghost use Rattle.std.specs.Prelude.{◌≡◌};
 ghost use Rattle.titles.specs.Scan.{answer_of};
 
-use outcomes::numbers::Refused;
+use outcomes::numbers::{Refusal, Refused};
 
 // The composer's answer: a refusal has its number and place and length 0, an acceptance number and
 // place 0 and the length written. Laid out as in C, for the static library.
@@ -20,7 +20,7 @@ impl From<Result<usize, Refused>> for Composed {
     fn from(written: Result<usize, Refused>) -> Composed {
         match written {
             Ok(length) => Composed {
-                number: 0,
+                number: Refusal::ACCEPTED,
                 place: 0,
                 length,
             },

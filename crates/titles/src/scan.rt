@@ -9,13 +9,14 @@ use outcomes::numbers::{Refusal, Refused};
 
 // The character at `at`, if a cluster starts with it.
 #[tactic(auto, unfolding(crate::specs::Compose::fault, nfc::specs::Repertoire::plain, nfc::specs::Utf8::within))]
+#[inline(always)]
 pub fn start_at(title: &[u8], at: usize) -> Result<char, Refused>
     requires { at ≤ length title.now }
     ensures { StartsAt at (front (drop at title.now)) result }
 {
     let refusal = match utf8::first(&title[at..]) {
-        Some(c) if repertoire::is_plain(c) => return Ok(c),
-        Some(c) if repertoire::is_mark(c) => Refusal::LooseMark,
+        Some(c) if repertoire::is_plain(u32::from(c)) => return Ok(c),
+        Some(c) if repertoire::is_mark(u32::from(c)) => Refusal::LooseMark,
         Some(_) => Refusal::OutsideRepertoire,
         None => Refusal::NotUtf8,
     };
@@ -29,7 +30,7 @@ fn joined_at(title: &[u8], at: usize, letter: char) -> Option<char>
     if title.get(at) != Some(&0xCC) {
         return None;
     }
-    pairs::composite(letter, utf8::first(&title[at..])?)
+    pairs::composite(u32::from(letter), u32::from(utf8::first(&title[at..])?))
 }
 
 // Composes a title into `room`, up to the first bad character, and answers how many bytes it makes.

@@ -1,6 +1,5 @@
--- `composite` meets its contract: the rows are the pairs.
-use Rattle.characters.proofs.Rows.{pairs_joined}
+-- `composite` meets its contract: the mark's rows have all that it makes.
 use Rattle.characters.proofs.pairs.composite.Goals as goal
 
 pub returns : goal.returns
-returns c = rw c.sought.ensures (pairs_joined c.args.letter c.args.mark)
+returns c = rw c.sought.ensures (c.rows_of.ensures c.args.letter)
