@@ -1,5 +1,5 @@
 -- A turn of the loop: a refusal ends the run, or row i is taken; and the run after the last row.
-use Prim.Native.Nat.{ℕ, zero, suc, ◌+◌, ◌-◌, ◌*◌, ◌≤◌, ◌<◌}
+use Prim.Native.Nat.{ℕ, zero, suc, ◌+◌, ◌-◌, ◌^◌, ◌≤◌, ◌<◌}
 use mathlib.Core.Path.{◌≡◌, sym, ap, subst, ◌∙◌}
 use mathlib.Core.Bool.{true}
 use Rattle.std.specs.Prelude.{Ok, Err}
@@ -18,7 +18,6 @@ use Rattle.titles.specs.Compose.{composed_text}
 use Rattle.engine.specs.Engine.{told, last_text, top_of, tops, RowsLabelled}
 use Rattle.engine.specs.Judging.{JudgeSizedAsks, JudgeGives}
 use Rattle.faults.specs.Waiting.{step_fault}
-use Rattle.trees.specs.Rules.{max_nodes, max_bytes}
 use Rattle.stack.specs.Areas.{Held, pieces, RootWhole, root_of, after, cost, noted, grown, GrowAsks}
 use Rattle.faults.specs.Steps.{stops}
 use Rattle.outcomes.specs.RefusalsLaws.{numbered}
@@ -113,15 +112,15 @@ module _ (t : Table) (i at : ℕ) {nodes area : ℕ} {s : Held} {labels₀ label
           grows : length (pieces (after Sha256.label s.tags entry)) ≤ length (pieces s.tags) + head_bytes + long
           grows = omega (arith, after_long composed_text s.tags w.whole_labels entry entry_formed (sym z), bytes_most kind count value, value_long)
 
-          pub ready : length labels ≡ length labels₀ → nodes ≤ max_nodes → area ≤ 2 * max_bytes → GrowAsks nodes area s entry i labels
-          ready same few small =
+          pub ready : length labels ≡ length labels₀ → area < 2 ^ 61 → GrowAsks nodes area s entry i labels
+          ready same small =
               record {
                 sound = entry_sound composed_text s.tags w.whole_labels entry entry_formed (sym z);
                 room = omega (arith, g.rows_fit, w.few);
                 work_room = omega (arith, grows, w.low, row_used, g.work_fits);
                 labels_room = omega (arith, g.given.labels_room);
                 counted = omega (arith, g.given.form.columns.few, w.counted);
-                few = few;
+                few = omega (arith, g.given.form.columns.few, inside, w.few);
                 small = small;
               }
 

@@ -1,7 +1,7 @@
 // What is told of a table's rows.
 ghost use Rattle.std.specs.Prelude.{◌≤◌, ◌*◌};
 ghost use Rattle.trees.specs.Rules.{max_nodes, max_bytes};
-ghost use Rattle.tables.specs.Seen.{seen};
+ghost use Rattle.tables.specs.Tables.{seen};
 ghost use Rattle.engine.specs.Judging.{JudgeAsks, JudgeSizedAsks, JudgeGives};
 
 use outcomes::numbers::Refused;

@@ -5,7 +5,6 @@ use mathlib.Core.List.{List, [], ◌∷◌, ◌++◌, map, map-append, append-ni
 use native.Mathlib.Omega.{arith}
 use lib.ListN.{length, take, drop, set, length-append, length-drop, length-take}
 use Rattle.std.proofs.Common.{take-append-drop}
-use Rattle.trees.specs.Rules.{max_nodes, max_bytes}
 use lib.Seq.{take_at, drop_at, length-take-le}
 use Rattle.lists.specs.PartsLaws.{map_take, filled, front, tail_part}
 use Rattle.trees.specs.Nodes.{head_bytes, piece}
@@ -13,7 +12,7 @@ use Rattle.trees.specs.Rows.{Tag, head_of, highest_of, kids, below}
 use Rattle.tables.specs.Tables.{sum}
 use Rattle.faults.specs.Waiting.{kind_of, height_of, size_of, greatest}
 use Rattle.faults.specs.WaitingLaws.{kids_column, greatest_is}
-use Rattle.stack.specs.Areas.{pieces, Laid, tags_in, held, Held, Waits}
+use Rattle.stack.specs.Areas.{pieces, Laid, tags_in, held, Stacked, stacked, Waits}
 use Rattle.stack.specs.PieceLaws.{pieces_append, pieces_split, length_split, length_pieces}
 
 -- The last k nodes of a stack in the areas.
@@ -119,8 +118,8 @@ module _ {st : List Tag} {d top : ℕ} {kinds heights sizes work : List ℕ} (l 
   pub held_is : (b : ℕ) → held d b kinds heights sizes work ≡ record { tags = st; blocks = b }
   held_is b = ap (λ (gs : List Tag). record { tags = gs; blocks = b }) laid_tags
 
-  pub waits : {nodes area : ℕ} → nodes ≤ max_nodes → area ≤ 2 * max_bytes → Waits nodes area d top kinds heights sizes work
-  waits few small = record { laid = subst (λ (gs : List Tag). Laid gs d top kinds heights sizes work) (sym laid_tags) l; few = few; small = small }
+  pub waits : Waits d top kinds heights sizes work
+  waits = record { laid = subst (λ (gs : List Tag). Laid gs d top kinds heights sizes work) (sym laid_tags) l }
 
 -- none waits
 pub none_laid : (kinds heights sizes work : List ℕ) → Laid [] 0 0 kinds heights sizes work
@@ -128,9 +127,9 @@ none_laid kinds heights sizes work =
     record { deep = refl; columns = record { kinds_are = refl; heights_are = refl; sizes_are = refl }; work_is = refl; full = refl }
 
 -- the nodes that a stack's callers see lie in its areas
-pub tags_of_held : {nodes area d b top : ℕ} {kinds heights sizes work : List ℕ} {s : Held} → held d b kinds heights sizes work ≡ s
-    → Waits nodes area d top kinds heights sizes work → Laid s.tags d top kinds heights sizes work
-tags_of_held {d = d} {top = top} {kinds} {heights} {sizes} {work} e w = subst (λ (h : Held). Laid h.tags d top kinds heights sizes work) e w.laid
+pub tags_of_held : {d b top : ℕ} {kinds heights sizes work : List ℕ} {s : Stacked} → stacked d top b kinds heights sizes work ≡ s
+    → Waits d top kinds heights sizes work → Laid s.held.tags d top kinds heights sizes work
+tags_of_held {d = d} {top = top} {kinds} {heights} {sizes} {work} e w = subst (λ (x : Stacked). Laid x.held.tags d top kinds heights sizes work) e w.laid
 
 -- the pieces lie in the area
 pub top_in : {st : List Tag} {d top : ℕ} {kinds heights sizes work : List ℕ} → Laid st d top kinds heights sizes work → top ≤ length work

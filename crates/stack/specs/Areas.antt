@@ -2,7 +2,7 @@
 use Rattle.std.specs.Prelude.{ℕ, ◌+◌, ◌*◌, ◌^◌, ◌≤◌, ◌<◌, ◌≡◌, List, [], ◌∷◌, ◌++◌, map, length, take, drop, cond, eqb, Option, Some, None}
 use Rattle.std.proofs.Math.Seq.{paste}
 use Rattle.trees.specs.Nodes.{head_bytes, prelabel, blocks_of}
-use Rattle.trees.specs.Rules.{max_nodes, max_bytes, max_height, label_bytes}
+use Rattle.trees.specs.Rules.{max_height, label_bytes}
 use Rattle.trees.specs.Rows.{Entry, node, tip, Tag, head_of, highest_of, kids, below, parent}
 use Rattle.sha256.specs.Sha256 as Sha256
 use Rattle.faults.specs.Waiting.{StackColumns}
@@ -27,7 +27,7 @@ tags_in (k ∷ ks) (h ∷ hs) [] w = []
 tags_in (k ∷ ks) (h ∷ hs) (n ∷ ns) w =
     record { kind = k; height = h; text = take n (drop head_bytes w) } ∷ tags_in ks hs ns (drop n (drop head_bytes w))
 
--- what a stack is to its callers: the nodes that wait, and the blocks compressed so far
+-- the nodes that wait, and the blocks compressed so far
 pub record Held : Type 0 where
   pub tags : List Tag
   pub blocks : ℕ
@@ -36,11 +36,23 @@ abbrev pub held : ℕ → ℕ → List ℕ → List ℕ → List ℕ → List �
 held depth blocks kinds heights sizes work =
     record { tags = tags_in (take depth kinds) (take depth heights) (take depth sizes) work; blocks = blocks }
 
--- the areas hold a stack, and are no larger than a table wants
-pub record Waits (nodes area depth top : ℕ) (kinds heights sizes work : List ℕ) : Type 0 where
+-- what a stack is to its callers: what it holds. So that it can be copied, its areas go with it; no clause speaks of them.
+pub record Stacked : Type 0 where
+  pub held : Held
+  pub depth : ℕ
+  pub top : ℕ
+  pub kinds : List ℕ
+  pub heights : List ℕ
+  pub sizes : List ℕ
+  pub work : List ℕ
+
+abbrev pub stacked : ℕ → ℕ → ℕ → List ℕ → List ℕ → List ℕ → List ℕ → Stacked
+stacked depth top blocks ks hs ns w =
+    record { held = held depth blocks ks hs ns w; depth = depth; top = top; kinds = ks; heights = hs; sizes = ns; work = w }
+
+-- the areas hold a stack
+pub record Waits (depth top : ℕ) (kinds heights sizes work : List ℕ) : Type 0 where
   pub laid : Laid (tags_in (take depth kinds) (take depth heights) (take depth sizes) work) depth top kinds heights sizes work
-  pub few : nodes ≤ max_nodes
-  pub small : area ≤ 2 * max_bytes
 
 -- room for one node more
 pub record PushAsks (nodes area : ℕ) (s : Held) (kind height : ℕ) (text : List ℕ) : Type 0 where
@@ -81,15 +93,15 @@ module _ (H : List ℕ → List ℕ) where
   abbrev pub grown : Held → Entry → Held
   grown s e = record { tags = after s.tags e; blocks = s.blocks + cost s.tags e }
 
--- The entry meets no refusal on the stack, and there is room for what it makes.
+-- The entry meets no refusal on the stack, and there is room for what it makes; the area is no longer than a text that a label is made of.
 pub record GrowAsks (nodes area : ℕ) (s : Held) (e : Entry) (i : ℕ) (labels : List ℕ) : Type 0 where
   pub sound : Sound s.tags e
   pub room : length s.tags < nodes
   pub work_room : length (pieces (after Sha256.label s.tags e)) ≤ area
   pub labels_room : label_bytes * i + label_bytes ≤ length labels
   pub counted : s.blocks < 2 ^ 40
-  pub few : nodes ≤ max_nodes
-  pub small : area ≤ 2 * max_bytes
+  pub few : length s.tags < 2 ^ 10
+  pub small : area < 2 ^ 61
 
 -- a root that waits alone has a whole label
 abbrev pub RootWhole : List Tag → Type 0

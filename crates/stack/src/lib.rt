@@ -1,8 +1,7 @@
 // The stack of waiting nodes: in one area their pieces end to end, in three columns their types, heights and label lengths.
 #![tactic(auto)]
 
-ghost use Rattle.std.specs.Prelude.{◌≡◌, [], ◌∷◌, ◌++◌, ◌+◌, ◌*◌, ◌^◌, ◌<◌, ◌≤◌, length};
-ghost use Rattle.trees.specs.Rules.{max_nodes, max_bytes};
+ghost use Rattle.std.specs.Prelude.{◌≡◌, [], ◌∷◌, ◌++◌, ◌+◌, ◌^◌, ◌<◌, ◌≤◌, length};
 ghost use Rattle.trees.specs.Rows.{node};
 ghost use Rattle.tables.specs.Tables.{entry_of};
 ghost use Rattle.sha256.specs.Sha256 as Sha256;
@@ -17,7 +16,7 @@ use tables::form;
 use tables::limits::Slip;
 
 // In `work` the next piece goes to `top`; `blocks` are those compressed so far.
-#[derive(Drop)]
+#[derive(Clone, Copy)]
 pub struct Stack<const NODES: usize, const WORK: usize> {
     kinds: [u16; NODES],
     heights: [u16; NODES],
@@ -28,15 +27,17 @@ pub struct Stack<const NODES: usize, const WORK: usize> {
     blocks: usize,
 }
 
-// Clauses see the nodes that wait, and the blocks.
+// Clauses speak of the nodes that wait, and the blocks. The areas are in view with them, without which no stack could be copied.
 impl<const NODES: usize, const WORK: usize> Model for Stack<NODES, WORK> {
-    ghost use Rattle.stack.specs.Areas.{Held, held, Waits};
+    ghost use Rattle.stack.specs.Areas.{Stacked, stacked, Waits};
 
-    ghost Value = { Held };
+    ghost Value = { Stacked };
 
-    ghost view = { λ s. held s.depth s.blocks s.kinds s.heights s.sizes s.work };
+    ghost view = { λ s. stacked s.depth s.top s.blocks s.kinds s.heights s.sizes s.work };
 
-    ghost invariant = { λ s. Waits NODES WORK s.depth s.top s.kinds s.heights s.sizes s.work };
+    ghost invariant = { λ s. Waits s.depth s.top s.kinds s.heights s.sizes s.work };
+
+    ghost inverse = { λ v. record { kinds = v.kinds; heights = v.heights; sizes = v.sizes; work = v.work; depth = v.depth; top = v.top; blocks = v.held.blocks } };
 }
 
 // What the last `count` nodes give their parent: its height, the length of its prelabel and its label.
@@ -49,8 +50,7 @@ struct Parent {
 
 impl<const NODES: usize, const WORK: usize> Stack<NODES, WORK> {
     pub fn new() -> Self
-        requires { (NODES ≤ max_nodes) × (WORK ≤ 2 * max_bytes) }
-        ensures { result ≡ record { tags = []; blocks = 0 } }
+        ensures { result.held ≡ record { tags = []; blocks = 0 } }
     {
         Stack {
             kinds: [0; NODES],
@@ -64,13 +64,13 @@ impl<const NODES: usize, const WORK: usize> Stack<NODES, WORK> {
     }
 
     pub fn blocks(&self) -> usize
-        ensures { result ≡ self.now.blocks }
+        ensures { result ≡ self.now.held.blocks }
     {
         self.blocks
     }
 
     pub fn waiting(&self) -> Waiting<'_>
-        ensures { StackColumns self.now.tags result.kinds.now result.heights.now result.sizes.now }
+        ensures { StackColumns self.now.held.tags result.kinds.now result.heights.now result.sizes.now }
     {
         Waiting {
             kinds: &self.kinds[..self.depth],
@@ -81,8 +81,8 @@ impl<const NODES: usize, const WORK: usize> Stack<NODES, WORK> {
 
     // The label of a root that waits alone: it stands behind the head of the only piece.
     pub fn root(&self) -> Option<[u8; Slip::LABEL_BYTES]>
-        requires { RootWhole self.now.tags }
-        ensures { result ≡ root_of self.now.tags }
+        requires { RootWhole self.now.held.tags }
+        ensures { result ≡ root_of self.now.held.tags }
     {
         if self.depth != 1 || self.kinds[0] != 0 {
             return None;
@@ -95,8 +95,8 @@ impl<const NODES: usize, const WORK: usize> Stack<NODES, WORK> {
 
     // One node more: its piece goes behind the pieces, its cells at the columns' ends.
     fn push(&mut self, kind: usize, height: usize, text: &[u8])
-        requires { PushAsks NODES WORK self.old kind height text.now }
-        ensures { self.new ≡ record { tags = self.old.tags ++ (record { kind = kind; height = height; text = text.now } ∷ []); blocks = self.old.blocks } }
+        requires { PushAsks NODES WORK self.old.held kind height text.now }
+        ensures { self.new.held ≡ record { tags = self.old.held.tags ++ (record { kind = kind; height = height; text = text.now } ∷ []); blocks = self.old.held.blocks } }
     {
         let depth = self.depth;
         self.kinds[depth] = kind as u16;
@@ -108,8 +108,8 @@ impl<const NODES: usize, const WORK: usize> Stack<NODES, WORK> {
 
     // Their prelabel stands as it is hashed, at the end of the area.
     fn parent_of(&self, count: usize) -> Parent
-        requires { count ≤ length self.now.tags }
-        ensures { ParentGives self.now.tags count result }
+        requires { (count ≤ length self.now.held.tags) × (count < 2 ^ 10) × (WORK < 2 ^ 61) }
+        ensures { ParentGives self.now.held.tags count result }
     {
         let waiting = self.waiting();
         let base = self.depth - count;
@@ -125,9 +125,9 @@ impl<const NODES: usize, const WORK: usize> Stack<NODES, WORK> {
 
     // The hash step: the last `count` nodes give way to their parent, whose label is noted at row i.
     fn hash(&mut self, count: usize, i: usize, labels: &mut [u8])
-        requires { GrowAsks NODES WORK self.old (node count) i labels.old }
-        ensures stack { self.new ≡ grown Sha256.label self.old (node count) }
-        ensures labels { labels.new ≡ noted Sha256.label self.old.tags (node count) i labels.old }
+        requires { GrowAsks NODES WORK self.old.held (node count) i labels.old }
+        ensures stack { self.new.held ≡ grown Sha256.label self.old.held (node count) }
+        ensures labels { labels.new ≡ noted Sha256.label self.old.held.tags (node count) i labels.old }
     {
         let parent = self.parent_of(count);
         let at = Slip::LABEL_BYTES * i;
@@ -140,9 +140,9 @@ impl<const NODES: usize, const WORK: usize> Stack<NODES, WORK> {
 
     // The stack after a row's entry that meets no refusal.
     pub fn grow(&mut self, kind: usize, count: usize, value: &[u8], i: usize, labels: &mut [u8])
-        requires { GrowAsks NODES WORK self.old (entry_of kind count value.now) i labels.old }
-        ensures stack { self.new ≡ grown Sha256.label self.old (entry_of kind count value.now) }
-        ensures labels { labels.new ≡ noted Sha256.label self.old.tags (entry_of kind count value.now) i labels.old }
+        requires { GrowAsks NODES WORK self.old.held (entry_of kind count value.now) i labels.old }
+        ensures stack { self.new.held ≡ grown Sha256.label self.old.held (entry_of kind count value.now) }
+        ensures labels { labels.new ≡ noted Sha256.label self.old.held.tags (entry_of kind count value.now) i labels.old }
     {
         if count == 0 {
             self.push(kind, 1, value);

@@ -1,7 +1,7 @@
 use Rattle.std.proofs.Common.{◌≤◌, ◌+◌, ℕ, List, Option, Ok, Err, length, sym, ap₂, subst, arith, rules}
 use Rattle.outcomes.specs.declared.numbers.Refused.{Refused}
 use Rattle.sha256.specs.Sha256 as Sha256
-use Rattle.tables.specs.Seen.{seen}
+use Rattle.tables.specs.Tables.{seen}
 use Rattle.stack.specs.Areas.{Held}
 use Rattle.engine.specs.declared.judge.Judged.{Judged}
 use Rattle.engine.specs.Judging.{JudgeGives}
@@ -27,21 +27,21 @@ returns-in-Err g c =
     let l = c.loop-i in
     subst (λ (r : Refused). JudgeGives t (Err r) l.labels) (sym c.at.ensures)
     (stopped t l.i l.at c.requires.asks l.invariant c.loop-i-test.true c.cell-kind.ensures.0 c.cell-count.ensures.0 c.cell.ensures.0
-    c.in-Err.refusal (c.in-Err.ensures Sha256.label l.stack.tags c.waiting.ensures))
+    c.in-Err.refusal (c.in-Err.ensures Sha256.label l.stack.held.tags c.waiting.ensures))
 
 pub grow-requires : goal.grow-requires
 grow-requires g c =
     let l = c.loop-i in (
       search rules,
       ready (seen c.args.t) l.i l.at c.requires.asks l.invariant c.loop-i-test.true c.cell-kind.ensures.0 c.cell-count.ensures.0 c.cell.ensures.0
-          (c.in_default.ensures Sha256.label l.stack.tags c.waiting.ensures) l.auto.labels c.requires.sizes.0 c.requires.sizes.1,
+          (c.in_default.ensures Sha256.label l.stack.held.tags c.waiting.ensures) l.auto.labels (omega arith),
     )
 
 pub loop-i-preserved : goal.loop-i-preserved
 loop-i-preserved g c =
     let l = c.loop-i in
     going_next (seen c.args.t) l.i l.at c.requires.asks l.invariant c.loop-i-test.true c.cell-kind.ensures.0 c.cell-count.ensures.0 c.cell.ensures.0
-    (c.in_default.ensures Sha256.label l.stack.tags c.waiting.ensures) l.auto.labels c.grow.ensures.stack c.grow.ensures.labels
+    (c.in_default.ensures Sha256.label l.stack.held.tags c.waiting.ensures) l.auto.labels c.grow.ensures.stack c.grow.ensures.labels
 
 pub returns : goal.returns
 returns g c =

@@ -1,6 +1,6 @@
-use Rattle.tables.specs.Seen.{seen}
+use Rattle.tables.specs.Tables.{seen}
 use Rattle.engine.proofs.Going.{Going}
 use Rattle.engine.proofs.judge.judge_in.Given as goal
 
 abbrev pub invariant-loop-i : goal.invariant-loop-i
-invariant-loop-i g l = Going (seen l.t) l.i l.at l.stack l.labels
+invariant-loop-i g l = Going (seen l.t) l.i l.at l.stack.held l.labels

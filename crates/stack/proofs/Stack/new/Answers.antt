@@ -4,7 +4,7 @@ use Rattle.stack.proofs.Laid.{none_laid, waits}
 use Rattle.stack.proofs.Stack.new.Goals as goal
 
 pub invariant_of-result : goal.invariant_of-result
-invariant_of-result g c = waits (none_laid _ _ _ _) c.requires.0 c.requires.1
+invariant_of-result g c = waits (none_laid _ _ _ _)
 
 pub returns : goal.returns
 unfolding tags_in

@@ -9,10 +9,10 @@ use Rattle.stack.proofs.Stack.parent_of.Goals as goal
 use Rattle.stack.proofs.Stack.parent_of.Goals.{After-sum}
 
 there : (g : Over) (c : After-sum g) → c.args.count ≤ c.self.inside.depth
-there g c = omega (arith, c.requires, (tags_of_held c.self.view_is c.self.invariant).deep)
+there g c = omega (arith, c.requires.0, (tags_of_held c.self.view_is c.self.invariant).deep)
 
 -- the bytes that they take at the area's end
-long_is : (g : Over) (c : After-sum g) → c.sum.result + head_bytes * c.args.count ≡ length (pieces (kids c.args.count c.args.self.now.tags))
+long_is : (g : Over) (c : After-sum g) → c.sum.result + head_bytes * c.args.count ≡ length (pieces (kids c.args.count c.args.self.now.held.tags))
 long_is g c =
     ap (λ (n : ℕ). n + head_bytes * c.args.count) c.sum.ensures
     ∙ kids_bytes (tags_of_held c.self.view_is c.self.invariant) c.args.count (there g c) c.waiting-waiting.ensures.sizes_are
@@ -21,7 +21,7 @@ fits : (g : Over) (c : After-sum g) → c.sum.result + head_bytes * c.args.count
 fits g c = omega (arith, long_is g c, kids_fit (tags_of_held c.self.view_is c.self.invariant) c.args.count (there g c))
 
 pub overflow_add-long : goal.overflow_add-long
-overflow_add-long g c = omega (arith, fits g c, top_in c.self.invariant.laid, c.self.invariant.small)
+overflow_add-long g c = omega (arith, fits g c, top_in c.self.invariant.laid, c.requires.2)
 
 pub overflow_sub-self-inside : goal.overflow_sub-self-inside
 overflow_sub-self-inside g c = fits g (goal.at.overflow_sub-self-inside g c).After-sum
