@@ -1,5 +1,5 @@
 -- What is handed out, by the tests, and what the test of the buffers tells.
-use Rattle.std.proofs.Common.{ℕ, ◌≤◌, ◌≡◌, Bool, true, false, ◌||◌, List, ◌++◌, length, take, drop, ◌∙◌, refl, Ok, ltb, ltb-false, ne_eqb}
+use Rattle.std.proofs.Common.{ℕ, ◌≤◌, ◌≡◌, Bool, true, false, ◌||◌, List, ◌++◌, length, take, drop, ◌∙◌, refl, eq-eqb, ltb, ltb-false, ne_eqb}
 use lib.Seq.{take-length}
 use Rattle.lists.specs.TestsLaws.{or_left, or_right}
 use Rattle.outcomes.specs.Refusals.{accepted, no_room, number_of}
@@ -7,8 +7,8 @@ use Rattle.outcomes.specs.RefusalsLaws.{numbered}
 use Rattle.outcomes.specs.declared.numbers.Refused.{Refused}
 use Rattle.outcomes.specs.Outcome.{over, Leaves}
 use Rattle.tables.specs.Tables.{Table}
-use Rattle.answers.specs.declared.Accepted.{Accepted}
-use Rattle.answers.specs.Answers.{refused, refusal_answer, answer_of}
+use Rattle.answers.specs.declared.Answer.{Answer}
+use Rattle.answers.specs.Answers.{refused, refusal_answer}
 use Rattle.handing.specs.Handing.{lacks_room, over_all, handed_of}
 
 -- where none lacks room each part fits its buffer
@@ -38,20 +38,20 @@ fits_told t types counts lengths values e =
 pub copied : (x y : List ℕ) {z : List ℕ} → z ≡ take (length x) x ++ drop (length x) y → z ≡ over x y
 copied x y e = e ∙ rw take-length
 
-module _ (a : Accepted) (t b : Table) where
+module _ (a : Answer) (t b : Table) (taken : a.number ≡ accepted) where
   pub lacking :
       lacks_room t (length b.types) (length b.counts) (length b.lengths) (length b.values) ≡ true
-      → Leaves (handed_of (answer_of (Ok a)) t b) (refused no_room 0) b
+      → Leaves (handed_of a t b) (refused no_room 0) b
   unfolding handed_of
-  lacking l = rw l (record { answered = refl; written = refl })
+  lacking l = rw (eq-eqb a.number accepted taken, l) (record { answered = refl; written = refl })
 
   pub handed :
       lacks_room t (length b.types) (length b.counts) (length b.lengths) (length b.values) ≡ false
       → {left : Table}
       → left ≡ over_all t b
-      → Leaves (handed_of (answer_of (Ok a)) t b) (answer_of (Ok a)) left
+      → Leaves (handed_of a t b) a left
   unfolding handed_of
-  handed l e = rw l (record { answered = refl; written = e })
+  handed l e = rw (eq-eqb a.number accepted taken, l) (record { answered = refl; written = e })
 
 pub handed_back : (r : Refused) (t b : Table) → Leaves (handed_of (refusal_answer r) t b) (refusal_answer r) b
 unfolding handed_of

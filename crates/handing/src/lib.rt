@@ -2,14 +2,12 @@
 #![tactic(auto)]
 
 ghost use Rattle.std.specs.Prelude.{◌≡◌};
-ghost use Rattle.tables.specs.Seen.{seen};
-ghost use Rattle.tables.specs.Tables.{table};
+ghost use Rattle.tables.specs.Tables.{table, seen};
 ghost use Rattle.outcomes.specs.Outcome.{Leaves};
-ghost use Rattle.answers.specs.Answers.{answer_of};
 ghost use Rattle.handing.specs.Handing.{handed_of, lacks_room};
 
-use answers::Accepted;
-use outcomes::numbers::{Refusal, Refused};
+use answers::Answer;
+use outcomes::numbers::Refusal;
 use tables::table::Table;
 
 #[tactic(auto, unfolding(crate::specs::Handing::lacks_room))]
@@ -28,18 +26,21 @@ fn lacks_room(
         || values_room < t.values.len()
 }
 
-// An accepted slip's table goes to the four buffers that C lends, or 11; a refusal stays as it is.
+// An accepted slip's table goes to the four buffers that C lends, or 11; any other answer stays as it is.
+#[tactic(auto, using(crate::specs::HandingLaws::handed_refused))]
 pub fn hand_out(
-    a: Result<Accepted, Refused>,
+    a: Answer,
     t: Table,
     types_out: &mut [u16],
     counts_out: &mut [u16],
     lengths_out: &mut [u16],
     values_out: &mut [u8],
-) -> Result<Accepted, Refused>
-    ensures { Leaves (handed_of (answer_of a) (seen t.entry) (table types_out.old counts_out.old lengths_out.old values_out.old)) (answer_of result) (table types_out.new counts_out.new lengths_out.new values_out.new) }
+) -> Answer
+    ensures { Leaves (handed_of a (seen t.entry) (table types_out.old counts_out.old lengths_out.old values_out.old)) result (table types_out.new counts_out.new lengths_out.new values_out.new) }
 {
-    let accepted = a?;
+    if a.number != Refusal::ACCEPTED {
+        return a;
+    }
     if lacks_room(
         t,
         types_out.len(),
@@ -47,11 +48,11 @@ pub fn hand_out(
         lengths_out.len(),
         values_out.len(),
     ) {
-        return Err(Refusal::NoRoom.into());
+        return Answer::from(Refusal::NoRoom.at(0));
     }
     lists::copy(t.types, types_out);
     lists::copy(t.counts, counts_out);
     lists::copy(t.lengths, lengths_out);
     lists::copy(t.values, values_out);
-    Ok(accepted)
+    a
 }

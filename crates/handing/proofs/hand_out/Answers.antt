@@ -1,19 +1,12 @@
-use Rattle.std.proofs.Common.{length, sym, ◌∙◌}
-use Rattle.std.proofs.lemmas.Result.{err_from_is_err_and}
-use Rattle.tables.specs.Seen.{seen}
-use Rattle.tables.specs.Tables.{table}
-use Rattle.handing.proofs.Copying.{Fits, fits_told, copied, lacking, handed, handed_back}
+use Rattle.std.proofs.Common.{length, sym, ◌∙◌, arith}
+use Rattle.tables.specs.Tables.{table, seen}
+use Rattle.handing.proofs.Copying.{Fits, fits_told, copied, lacking, handed}
 use Rattle.handing.proofs.hand_out.Goals as goal
 use Rattle.handing.proofs.hand_out.Goals.{Else-lacks_room}
 
-pub returns-in_err-accepted : goal.returns-in_err-accepted
-returns-in_err-accepted c =
-    let p = err_from_is_err_and c.from_residual.result c.from_residual.ensures.1 in
-    rw (p.1, p.2, c.in_err-accepted.was) (handed_back _ _ _)
-
 pub returns-then-lacks_room : goal.returns-then-lacks_room
 returns-then-lacks_room c =
-    rw (c.into.ensures, c.in_ok-accepted.was) (lacking _ _ _ (sym c.lacks_room.ensures ∙ c.if-lacks_room.true))
+    rw (c.from.ensures, c.at.ensures) (lacking _ _ _ (omega arith) (sym c.lacks_room.ensures ∙ c.if-lacks_room.true))
 
 -- each part fits its buffer
 roomy : (c : Else-lacks_room) →
@@ -40,4 +33,4 @@ returns c =
     let n = copied a.t.counts.now a.counts_out.now c.copy-2.ensures.1 in
     let l = copied a.t.lengths.now a.lengths_out.now c.copy-3.ensures.1 in
     let v = copied a.t.values.now a.values_out.now c.copy-4.ensures.1 in
-    rw c.in_ok-accepted.was (handed _ _ _ (sym c.lacks_room.ensures ∙ c.if-lacks_room.false) (λ i. table (t i) (n i) (l i) (v i)))
+    handed _ _ _ (omega arith) (sym c.lacks_room.ensures ∙ c.if-lacks_room.false) (λ i. table (t i) (n i) (l i) (v i))
