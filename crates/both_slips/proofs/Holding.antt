@@ -96,7 +96,7 @@ module _ {s u : List ℕ} {a b : Opened} {types counts lengths area values label
   -- the tables of two accepted slips with one root label
   pub tables_held : {r : Answer} → (answer_of a.answer).label ≡ (answer_of b.answer).label → r ≡ answer_of a.answer → a.rows + b.rows ≤ length y.types
       → a.rows + b.rows ≤ length y.counts → a.rows + b.rows ≤ length y.lengths
-      → Tables s u (record { label = r.label; first = a.rows; rows = a.rows + b.rows }) y.types y.counts y.lengths y.values y.labels
+      → Tables s u (record { answer = r; first = a.rows; rows = a.rows + b.rows }) y.types y.counts y.lengths y.values y.labels
   tables_held l g t c n =
       let x = h.reads_as in
       let z = second.reads_as in

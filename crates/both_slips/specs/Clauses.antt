@@ -63,7 +63,7 @@ pub record Tables (s u : List ℕ) (r : Held) (types counts lengths values label
   pub counts_room : r.rows ≤ length counts
   pub lengths_room : r.rows ≤ length lengths
   pub alike : Alike Sha256.label (slip_tree s) (slip_tree u)
-  pub labelled : label Sha256.label (slip_tree s) ≡ r.label
+  pub labelled : label Sha256.label (slip_tree s) ≡ r.answer.label
   pub two :
       TwoTables Sha256.label (slip_tree s) (slip_tree u) r.first (take r.rows types) (take r.rows counts) (take r.rows lengths) values
       labels
@@ -72,7 +72,8 @@ pub record Tables (s u : List ℕ) (r : Held) (types counts lengths values label
 abbrev pub both_answer : List ℕ → List ℕ → Answer
 both_answer s u = both_of (body_of Sha256.label composed_text s) (body_of Sha256.label composed_text u)
 
--- the refusal; where the answer refuses neither, what the areas hold
+-- the answer; where it refuses neither, what the areas hold
 abbrev pub BothGives : List ℕ → List ℕ → Result Held Answer → List ℕ → List ℕ → List ℕ → List ℕ → List ℕ → Type 0
 BothGives s u (Err a) types counts lengths values labels = (a ≡ both_answer s u) × (a.number ≡ accepted → ⊥)
-BothGives s u (Ok r) types counts lengths values labels = ((both_answer s u).number ≡ accepted) × Tables s u r types counts lengths values labels
+BothGives s u (Ok r) types counts lengths values labels =
+    (r.answer ≡ both_answer s u) × (r.answer.number ≡ accepted) × Tables s u r types counts lengths values labels

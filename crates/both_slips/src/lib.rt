@@ -11,10 +11,10 @@ use slips::open;
 use slips::open::Opened;
 use tables::limits::Slip;
 
-// Both tables end to end: the label of their roots, and how many rows the first and both have.
+// Both tables end to end: the first slip's answer, and how many rows the first and both have.
 #[derive(Drop)]
 pub struct Held {
-    pub label: [u8; Slip::LABEL_BYTES],
+    pub answer: Answer,
     pub first: usize,
     pub rows: usize,
 }
@@ -77,7 +77,7 @@ pub fn hold_both(
         return Err(answer);
     }
     Ok(Held {
-        label: answer.label,
+        answer,
         first: a.rows,
         rows: a.rows + b.rows,
     })

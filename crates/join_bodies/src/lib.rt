@@ -37,7 +37,7 @@ fn join_in<const ROWS: usize, const BYTES: usize, const LABELS: usize>(
     match held {
         Ok(held) => merge::merge(
             held.first,
-            held.label,
+            held.answer.label,
             areas.table(held.rows, BYTES),
             &areas.labels,
             out,

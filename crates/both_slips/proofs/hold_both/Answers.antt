@@ -32,7 +32,8 @@ returns c =
     c.both-answer.ensures ∙ ap₂ both_of c.from.ensures c.from-2.ensures in
     let taken : c.both-answer.result.number ≡ accepted = eqb-true _ _ (sym c.is_accepted.ensures ∙ c.if-not-is_accepted.false) in
     let t = both_told (answer_of o.result.answer) (answer_of k.result.answer) (ap (λ (a : Answer). a.number) (sym both) ∙ taken) in (
-      ap (λ (a : Answer). a.number) (sym (both ∙ ap₂ both_of o.ensures.answer k.ensures.opens.answer)) ∙ taken,
+      both ∙ ap₂ both_of o.ensures.answer k.ensures.opens.answer,
+      taken,
       tables_held (holds_tree o.ensures rooms t.one) o.ensures (take-append-le _ _ _ o.ensures.room) k.ensures t.two
           (same_true _ _ t.alike) (both ∙ t.is)
           (omega (arith, first_few, second_few, k.auto.types, o.auto.types, p.types_room))
