@@ -1,9 +1,10 @@
 -- The rows picked, one turn at a time.
 use Prim.Native.Nat.{ℕ, ◌+◌, ◌-◌, ◌*◌, ◌≤◌, ◌<◌}
 use mathlib.Core.Path.{◌≡◌, refl, sym, ap, ◌∙◌, subst}
-use mathlib.Core.List.{List, [], ◌∷◌, ◌++◌, append_assoc, append-nil}
+use mathlib.Core.List.{List, [], ◌∷◌, ◌++◌, map, append_assoc, append-nil}
 use native.Mathlib.Numerals.{add-one}
 use native.Mathlib.Omega.{arith}
+use Rattle.std.proofs.lemmas.List.{get_or-map, length-map}
 use lib.ListN.{length, take, drop, get_or, length-drop, drop_of_length-le, take-append-drop}
 use lib.Seq.{take-suc, length-take-le}
 use Rattle.trees.specs.Rules.{label_bytes}
@@ -42,6 +43,12 @@ pub value_part : (values : List ℕ) (at l k : ℕ) → l ≡ k → take (at + l
 value_part values at l k e =
     let f : at + l - at ≡ k = omega arith in
     ap (λ (j : ℕ). take j (drop at values)) f
+
+-- a row's mark, as it is read
+pub mark_held : {M : Type 0} (read : M → Mark) (marks : List M) {i : ℕ} {x : M} {m : Mark} → i < length (map read marks) → x ≡ get_or marks i x → m ≡ read x
+    → get_or (map read marks) i gone ≡ m
+mark_held read marks {i} {x} {m} h e r =
+    get_or-map read marks i x gone (omega (arith, length-map marks read)) ∙ sym (r ∙ ap read e)
 
 -- the rows before row i are picked: what they gave, and what the others will give
 pub record Going (lengths : List ℕ) (es : List Entry) (xs : List (List ℕ)) (marks : List Mark) (i at rows used : ℕ) (ts cs ls vs : List ℕ) : Type 0 where
@@ -119,13 +126,13 @@ module _ {types counts lengths values labels : List ℕ} {marks : List Mark} (re
       e_here = omega (arith, length_entries types counts lengths values ready.form.columns.counts_long ready.form.columns.lengths_long)
 
       pub going_more :
-          {next rows' used' : ℕ} {ts' cs' ls' vs' : List ℕ}
+          {m : Mark} {next rows' used' : ℕ} {ts' cs' ls' vs' : List ℕ}
+          → get_or marks i gone ≡ m
           → next ≡ at + get_or lengths i 0
-          → TurnGives (get_or marks i gone) (get_or lengths i 0) (entry_of (get_or types i 0) (get_or counts i 0) v) label rows used ts cs ls vs
+          → TurnGives m (get_or lengths i 0) (entry_of (get_or types i 0) (get_or counts i 0) v) label rows used ts cs ls vs
           rows' used' ts' cs' ls' vs'
           → Going lengths es xs marks (i + 1) next rows' used' ts' cs' ls' vs'
-      going_more n turn =
-          let m : Mark = get_or marks i gone in
+      going_more {m} q n turn =
           let e : Entry = entry_of (get_or types i 0) (get_or counts i 0) v in
           let l_rows : i < length xs = omega (arith, length_label_rows (length types) labels) in
           record {
@@ -138,7 +145,7 @@ module _ {types counts lengths values labels : List ℕ} {marks : List Mark} (re
                 g.left
                 ∙ ap (λ (x : List Entry). g.so_far ++ x)
                 (picked_step row_by (tip 0 []) [] marks es xs i marked e_here l_rows
-                ∙ (λ k. row_by m (entry_is k) (label_at k) ++ picked row_by (drop (i + 1) marks) (drop (i + 1) es) (drop (i + 1) xs)))
+                ∙ (λ k. row_by (q k) (entry_is k) (label_at k) ++ picked row_by (drop (i + 1) marks) (drop (i + 1) es) (drop (i + 1) xs)))
                 ∙ sym (append_assoc g.so_far (row_by m e label) (picked row_by (drop (i + 1) marks) (drop (i + 1) es) (drop (i + 1) xs)));
           }
 

@@ -1,14 +1,14 @@
 // The table of the rows that the marks pick.
 #![tactic(auto)]
 
-ghost use Rattle.std.specs.Prelude.{◌≡◌, ◌+◌, ◌≤◌, ◌<◌, length};
+ghost use Rattle.std.specs.Prelude.{◌≡◌, ◌+◌, ◌≤◌, ◌<◌, length, map};
 ghost use Rattle.trees.specs.Rules.{label_bytes};
 ghost use Rattle.tables.specs.Tables.{entry_of};
 ghost use Rattle.prune_rows.specs.Clauses.{PickRoom};
 ghost use Rattle.prune_rows.specs.Marks.{cut_off};
 ghost use Rattle.prune_rows.specs.Steps.{PutAsks, PutGives, TurnGives, PickAsks, PickGives};
 
-use prune_rows::marks::Mark;
+use prune_rows::marks::{Mark, Marking};
 use tables::form::cell;
 use tables::limits::Slip;
 use tables::table::Table;
@@ -73,18 +73,18 @@ fn turn(
 
 // The rows that the marks pick, in the second columns and area. These are lent as slices: of a struct that held them each
 // contract would have to say that its references stay the same ones.
-pub fn pick(
+pub fn pick<M: Marking>(
     t: Table,
     labels: &[u8],
-    marks: &[Mark],
+    marks: &[M],
     types2: &mut [u16],
     counts2: &mut [u16],
     lengths2: &mut [u16],
     values2: &mut [u8],
 ) -> Pruned
-    requires pick_asks { PickAsks t.types.now t.counts.now t.lengths.now t.values.now labels.now marks.now }
+    requires pick_asks { PickAsks t.types.now t.counts.now t.lengths.now t.values.now labels.now (map M.read marks.now) }
     requires pick_room { PickRoom t.types.now t.lengths.now types2.old counts2.old lengths2.old values2.old × (length t.types.now ≤ length marks.now) }
-    ensures { PickGives t.entry.types.now t.entry.counts.now t.entry.lengths.now t.entry.values.now labels.now marks.now result.rows result.used types2.new counts2.new lengths2.new values2.new }
+    ensures { PickGives t.entry.types.now t.entry.counts.now t.entry.lengths.now t.entry.values.now labels.now (map M.read marks.now) result.rows result.used types2.new counts2.new lengths2.new values2.new }
 {
     let mut at = 0;
     let mut p = Pruned { rows: 0, used: 0 };
@@ -93,7 +93,7 @@ pub fn pick(
         let from = Slip::LABEL_BYTES * i;
         let to = from + Slip::LABEL_BYTES;
         p = turn(
-            marks[i],
+            marks[i].mark(),
             t.types[i],
             t.counts[i],
             t.lengths[i],

@@ -16,6 +16,18 @@ kept = Kept
 abbrev pub cut_off : Mark
 cut_off = CutOff
 
+-- a mark held as a byte: any from 2 on cuts off
+abbrev pub mark_of : ℕ → Mark
+mark_of zero = gone
+mark_of (suc zero) = kept
+mark_of (suc (suc k)) = cut_off
+
+-- the byte written for a mark
+abbrev pub byte_of : Mark → ℕ
+byte_of Gone = 0
+byte_of Kept = 1
+byte_of CutOff = 2
+
 -- the marks of the rows from one on, and how many subtrees before it are still owed to a row that is cut off
 pub record Walk : Type 0 where
   pub marks : List Mark
