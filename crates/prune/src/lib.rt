@@ -54,7 +54,10 @@ fn prune_in<const NODES: usize, const BYTES: usize, const LABELS: usize>(
 fn pruned(s: &[u8], list: &[u16], out: &mut [u8]) -> Result<Accepted, Refused>
     ensures { Leaves (prune_of Sha256.label composed_text s.now list.now out.old) (answer_of result) out.new }
 {
-    let n = header::header_of(s)?;
+    let n = match header::header_of(s) {
+        Ok(n) => n,
+        Err(refusal) => return Err(refusal.at(0)),
+    };
     if s.len() <= Small::BYTES && n <= Small::NODES {
         return prune_in::<{ Small::NODES }, { Small::BYTES }, { Small::LABELS }>(s, n, list, out);
     }

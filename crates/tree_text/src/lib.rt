@@ -29,7 +29,10 @@ pub fn draw(rt: &(impl Print + Complaints), s: &[u8]) -> Answer
 fn checked(rt: &(impl Print + Complaints), s: &[u8]) -> Result<Accepted, Refused>
     ensures { answer_of result ≡ check_of Sha256.label composed_text s.now }
 {
-    let n = header::header_of(s)?;
+    let n = match header::header_of(s) {
+        Ok(n) => n,
+        Err(refusal) => return Err(refusal.at(0)),
+    };
     opened(rt, s, n)
 }
 
@@ -54,7 +57,7 @@ fn opened(rt: &(impl Print + Complaints), s: &[u8], n: usize) -> Result<Accepted
 }
 
 // Where not all of the tree could be written, that is said.
-fn drawn(rt: &(impl Print + Complaints), table: Table<'_>, labels: &[u8]) {
+fn drawn(rt: &(impl Print + Complaints), table: Table<'_, '_>, labels: &[u8]) {
     let mut page = Page::new(io::writer(rt));
     if drawing::draw(&mut page, table, labels).is_err() {
         pages::say(rt, b"desk", b"cannot write");
