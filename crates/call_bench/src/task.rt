@@ -24,15 +24,15 @@ impl<'a> Task<'a> {
     pub fn read(source: &mut impl Read, parts: &'a mut [u8; PARTS]) -> Option<Task<'a>> {
         let mut head = [0; HEAD];
         source.read_exact(&mut head).ok()?;
-        let middle = usize::from(parts::sixteen(&head, 2)?);
-        let end = middle + usize::from(parts::sixteen(&head, 3)?);
+        let middle = usize::from(parts::sixteen(&head, 2));
+        let end = middle + usize::from(parts::sixteen(&head, 3));
         let _ = source.read_exact(&mut parts[..end]);
         Some(Task {
-            call: Call::from(parts::sixteen(&head, 0)?),
-            times: parts::sixteen(&head, 1)?,
+            call: Call::from(parts::sixteen(&head, 0)),
+            times: parts::sixteen(&head, 1),
             first: &parts[..middle],
             second: &parts[middle..end],
-            output: parts::sixteen(&head, 4)?,
+            output: parts::sixteen(&head, 4),
         })
     }
 }

@@ -27,14 +27,14 @@ pub fn cell(area: &[u16], i: usize) -> usize
     area.get(i).copied().map_or(0, usize::from)
 }
 
-// The k-th number of 16 bits, the more significant byte first; none past the last whole one.
-pub fn sixteen(area: &[u8], k: usize) -> Option<u16>
+// The k-th number of 16 bits, the more significant byte first; 0 past the last whole one.
+pub fn sixteen(area: &[u8], k: usize) -> u16
     ensures { Sixteen area.now k result }
 {
     if area.len() / 2 <= k {
-        return None;
+        return 0;
     }
-    Some(u16::from_be_bytes([area[2 * k], area[2 * k + 1]]))
+    u16::from_be_bytes([area[2 * k], area[2 * k + 1]])
 }
 
 // Where a part of n bytes ends that starts at `at`: not behind the area's end.
