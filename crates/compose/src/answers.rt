@@ -3,6 +3,7 @@ ghost use Rattle.std.specs.Prelude.{◌≤◌, length, IfOk};
 
 use crate::words::Complaint;
 use outcomes::numbers::Refused;
+use pages::Page;
 use std::io;
 use std::io::Write;
 
@@ -45,7 +46,7 @@ impl Answers {
     pub fn put(
         &mut self,
         page: &mut impl Write,
-        complaints: &mut impl Write,
+        complaints: &mut Page<impl Write>,
         title: &[u8],
     ) -> io::Result<()> {
         self.number = self.number.wrapping_add(1);
@@ -66,7 +67,7 @@ impl Answers {
     fn bare(
         &mut self,
         page: &mut impl Write,
-        complaints: &mut impl Write,
+        complaints: &mut Page<impl Write>,
         title: &[u8],
     ) -> io::Result<()> {
         match line(b"", title, &mut self.room) {
@@ -78,7 +79,9 @@ impl Answers {
                     title,
                     refused,
                 };
-                let _ = said(complaints, complaint);
+                if said(complaints, complaint).is_err() {
+                    complaints.clear();
+                }
                 Ok(())
             }
         }

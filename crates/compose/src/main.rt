@@ -66,7 +66,7 @@ fn run(
     source: &mut impl Read,
     area: &mut [u8; ROOM],
     page: &mut impl Write,
-    complaints: &mut impl Write,
+    complaints: &mut Page<impl Write>,
     form: Form,
 ) -> Result<(), Fault> {
     let mut lines = Lines::new();

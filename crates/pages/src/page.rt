@@ -27,6 +27,13 @@ impl<W: Write> Page<W> {
             at: 0,
         }
     }
+
+    // Forgets what stands on the page: it is not written out.
+    pub fn clear(&mut self)
+        ensures { (self.new.at ≡ 0) × (self.new.to ≡ self.old.to) }
+    {
+        self.at = 0;
+    }
 }
 
 // Where the page cannot be written out it stays as it stands, and the error is handed on.
@@ -50,7 +57,7 @@ impl<W: Write> Write for Page<W> {
         ensures keeps { OnOk result (Keeps (page_holds (W.contents self.old.to) self.old.text self.old.at) (W.contents self.new.to)) }
     {
         self.to.write_all(&self.text[..self.at])?;
-        self.at = 0;
+        self.clear();
         self.to.flush()
     }
 }
