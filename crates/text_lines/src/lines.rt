@@ -131,6 +131,9 @@ fn moved(area: &mut [u8; ROOM], from: usize, held: usize) -> usize
     requires { (from ≤ held) × (held ≤ room) }
     ensures { result ≤ room }
 {
-    area.copy_within(from..held, 0);
+    // The front of a line that comes in pieces stands there already.
+    if 0 < from {
+        area.copy_within(from..held, 0);
+    }
     held - from
 }
