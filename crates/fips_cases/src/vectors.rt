@@ -32,7 +32,7 @@ impl<'a> Said<'a> {
 
 // The lines read; the vectors begun, and how many of them agree; the bits of the message that is awaited; the digest that is; and
 // the last one, with which the next turn of the Monte Carlo test begins.
-#[derive(Default, Drop)]
+#[derive(Clone, Copy, Default)]
 pub struct Told {
     line: usize,
     vectors: usize,
