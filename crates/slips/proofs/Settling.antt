@@ -47,24 +47,25 @@ unfolding settled_by
 told_faulty n rows whole rest {j} {r} e =
     sym (rw (e, ne_eqb (number_of r.refusal) accepted (numbered r.refusal)))
 
+-- one whose bits end inside an entry: its answer, whatever is left of them
+pub told_cut : (n rows : ℕ) (whole : Bool) (rest : List ℕ) {j : Result Judged Refused} {d : Judged} → j ≡ Ok d → whole ≡ false
+    → refused cut_short rows ≡ settled_by n rows whole rest (judged_seen j)
+unfolding settled_by
+told_cut n rows whole rest e cut = sym (rw (e, cut))
+
 -- else the tests, over what was read and the root
-module _ (s : List ℕ) (rows : ℕ) {j : Result Judged Refused} {r : Result ℕ ℕ} {d : Judged} (e : j ≡ Ok d) where
-  pub told_cut : {at : ℕ} → r ≡ Err at → refused cut_short rows ≡ settled_by (length s) rows (is_ok r) (drop (stop r) (bits_of s)) (judged_seen j)
+module _ (s : List ℕ) (rows : ℕ) {j : Result Judged Refused} {r : Result ℕ ℕ} {d : Judged} (e : j ≡ Ok d) {at : ℕ} (k : r ≡ Ok at) where
+  pub told_many : d.root ≡ None → refused not_one_tree 0 ≡ settled_by (length s) rows (is_ok r) (drop (stop r) (bits_of s)) (judged_seen j)
   unfolding settled_by
-  told_cut k = sym (rw (e, k))
+  told_many h = sym (rw (e, k, h))
 
-  module _ {at : ℕ} (k : r ≡ Ok at) where
-    pub told_many : d.root ≡ None → refused not_one_tree 0 ≡ settled_by (length s) rows (is_ok r) (drop (stop r) (bits_of s)) (judged_seen j)
+  module _ {label : List ℕ} (h : d.root ≡ Some label) where
+    pub told_padding : padding_fits (drop at (bits_of s)) ≡ false
+        → refused bad_padding 0 ≡ settled_by (length s) rows (is_ok r) (drop (stop r) (bits_of s)) (judged_seen j)
     unfolding settled_by
-    told_many h = sym (rw (e, k, h))
+    told_padding p = sym (rw (e, k, h, p))
 
-    module _ {label : List ℕ} (h : d.root ≡ Some label) where
-      pub told_padding : padding_fits (drop at (bits_of s)) ≡ false
-          → refused bad_padding 0 ≡ settled_by (length s) rows (is_ok r) (drop (stop r) (bits_of s)) (judged_seen j)
-      unfolding settled_by
-      told_padding p = sym (rw (e, k, h, p))
-
-      pub told_taken : padding_fits (drop at (bits_of s)) ≡ true
-          → taken (length s) d.blocks label ≡ settled_by (length s) rows (is_ok r) (drop (stop r) (bits_of s)) (judged_seen j)
-      unfolding settled_by
-      told_taken p = sym (rw (e, k, h, p))
+    pub told_taken : padding_fits (drop at (bits_of s)) ≡ true
+        → taken (length s) d.blocks label ≡ settled_by (length s) rows (is_ok r) (drop (stop r) (bits_of s)) (judged_seen j)
+    unfolding settled_by
+    told_taken p = sym (rw (e, k, h, p))

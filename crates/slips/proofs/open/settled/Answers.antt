@@ -1,4 +1,4 @@
-use Rattle.std.proofs.Common.{◌≡◌, sym, ap, ◌∙◌, rules, Err}
+use Rattle.std.proofs.Common.{◌≡◌, sym, ap, ◌∙◌, rules, is_ok, Err}
 use Rattle.answers.specs.Answers.{answer_of, refusal_answer}
 use Rattle.slips.proofs.Settling.{told_faulty, told_cut, told_many, told_padding, told_taken}
 use Rattle.slips.proofs.open.settled.Goals as goal
@@ -9,7 +9,7 @@ returns-in_err-judged c =
     ap answer_of told ∙ told_faulty _ _ _ _ c.in_err-judged.was
 
 pub returns-in_default : goal.returns-in_default
-returns-in_default c = ap refusal_answer c.at.ensures ∙ told_cut _ _ c.in_ok-judged.was c.in_default.is
+returns-in_default c = ap refusal_answer c.at.ensures ∙ told_cut _ _ _ _ c.in_ok-judged.was (ap is_ok c.in_default.is)
 
 pub returns-in_default-root : goal.returns-in_default-root
 returns-in_default-root c =
