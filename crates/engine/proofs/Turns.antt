@@ -115,11 +115,14 @@ module _ (t : Table) (i at : ℕ) {nodes area : ℕ} {s : Held} {labels₀ label
           pub ready : length labels ≡ length labels₀ → area < 2 ^ 61 → GrowAsks nodes area s entry i labels
           ready same small =
               record {
-                sound = entry_sound composed_text s.tags w.whole_labels entry entry_formed (sym z);
-                room = omega (arith, g.rows_fit, w.few);
-                work_room = omega (arith, grows, w.low, row_used, g.work_fits);
-                labels_room = omega (arith, g.given.labels_room);
-                counted = omega (arith, g.given.form.columns.few, w.counted);
+                fits =
+                    record {
+                      sound = entry_sound composed_text s.tags w.whole_labels entry entry_formed (sym z);
+                      room = omega (arith, g.rows_fit, w.few);
+                      work_room = omega (arith, grows, w.low, row_used, g.work_fits);
+                      labels_room = omega (arith, g.given.labels_room);
+                      counted = omega (arith, g.given.form.columns.few, w.counted);
+                    };
                 few = omega (arith, g.given.form.columns.few, inside, w.few);
                 small = small;
               }

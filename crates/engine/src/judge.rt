@@ -5,7 +5,7 @@ ghost use Rattle.tables.specs.Tables.{seen};
 ghost use Rattle.engine.specs.Judging.{JudgeAsks, JudgeSizedAsks, JudgeGives};
 
 use outcomes::numbers::Refused;
-use stack::Stack;
+use stack::bounded::Bounded;
 use tables::areas::{Full, Small};
 use tables::form;
 use tables::limits::Slip;
@@ -28,19 +28,20 @@ fn judge_in<const NODES: usize, const WORK: usize>(
     requires sizes { (NODES ≤ max_nodes) × (WORK ≤ 2 * max_bytes) }
     ensures { JudgeGives (seen t.entry) result labels.new }
 {
-    let mut stack = Stack::<NODES, WORK>::new();
+    let mut bounded = Bounded::<NODES, WORK>::new();
     let mut at = 0;
     for i in 0..t.types.len() {
         let kind = form::cell(t.types, i);
         let count = form::cell(t.counts, i);
         let end = at + form::cell(t.lengths, i);
         let value = &t.values[at..end];
-        if let Err(refusal) = faults::fault(kind, count, value, stack.waiting()) {
+        if let Err(refusal) = faults::fault(kind, count, value, bounded.stack().waiting()) {
             return Err(refusal.at(i));
         }
-        stack.grow(kind, count, value, i, labels);
+        bounded.grow(kind, count, value, i, labels);
         at = end;
     }
+    let stack = bounded.stack();
     Ok(Judged {
         blocks: stack.blocks(),
         root: stack.root(),

@@ -93,13 +93,17 @@ module _ (H : List ℕ → List ℕ) where
   abbrev pub grown : Held → Entry → Held
   grown s e = record { tags = after s.tags e; blocks = s.blocks + cost s.tags e }
 
--- The entry meets no refusal on the stack, and there is room for what it makes; the area is no longer than a text that a label is made of.
-pub record GrowAsks (nodes area : ℕ) (s : Held) (e : Entry) (i : ℕ) (labels : List ℕ) : Type 0 where
+-- The entry meets no refusal on the stack, and there is room for what it makes.
+pub record GrowFits (nodes area : ℕ) (s : Held) (e : Entry) (i : ℕ) (labels : List ℕ) : Type 0 where
   pub sound : Sound s.tags e
   pub room : length s.tags < nodes
   pub work_room : length (pieces (after Sha256.label s.tags e)) ≤ area
   pub labels_room : label_bytes * i + label_bytes ≤ length labels
   pub counted : s.blocks < 2 ^ 40
+
+-- That, where fewer than 2^10 wait and the area is no longer than a text that a label is made of.
+pub record GrowAsks (nodes area : ℕ) (s : Held) (e : Entry) (i : ℕ) (labels : List ℕ) : Type 0 where
+  pub fits : GrowFits nodes area s e i labels
   pub few : length s.tags < 2 ^ 10
   pub small : area < 2 ^ 61
 

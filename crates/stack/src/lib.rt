@@ -1,6 +1,8 @@
 // The stack of waiting nodes: in one area their pieces end to end, in three columns their types, heights and label lengths.
 #![tactic(auto)]
 
+pub mod bounded;
+
 ghost use Rattle.std.specs.Prelude.{◌≡◌, [], ◌∷◌, ◌++◌, ◌+◌, ◌^◌, ◌<◌, ◌≤◌, length};
 ghost use Rattle.trees.specs.Rows.{node};
 ghost use Rattle.tables.specs.Tables.{entry_of};

@@ -12,10 +12,10 @@ push-requires g c =
     subst (λ (e : Entry). GrowAsks g.row.NODES g.row.WORK a.self.now.held e a.i a.labels.now) (entry_tip a.kind a.count a.value.now c.if-count-eq0.true) c.requires in (
       search rules,
       record {
-        kind_fits = leaf.sound.0;
+        kind_fits = leaf.fits.sound.0;
         height_fits = omega arith;
-        text_fits = leaf.sound.1;
-        room = leaf.room;
-        work_room = omega (arith, length_more a.self.now.held.tags (record { kind = a.kind; height = 1; text = a.value.now }), leaf.work_room);
+        text_fits = leaf.fits.sound.1;
+        room = leaf.fits.room;
+        work_room = omega (arith, length_more a.self.now.held.tags (record { kind = a.kind; height = 1; text = a.value.now }), leaf.fits.work_room);
       },
     )

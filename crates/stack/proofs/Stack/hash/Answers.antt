@@ -13,7 +13,7 @@ use Rattle.stack.proofs.Stack.hash.Goals as goal
 use Rattle.stack.proofs.Stack.hash.Goals.{After-parent_of-parent}
 
 there : (g : Over) (c : After-parent_of-parent g) → c.args.count ≤ c.self.inside.depth
-there g c = omega (arith, c.requires.sound.0, (tags_of_held c.self.view_is c.self.invariant).deep)
+there g c = omega (arith, c.requires.fits.sound.0, (tags_of_held c.self.view_is c.self.invariant).deep)
 
 fits : (g : Over) (c : After-parent_of-parent g) → c.parent_of-parent.result.long ≤ c.self.inside.top
 fits g c = omega (arith, c.parent_of-parent.ensures.long, kids_fit (tags_of_held c.self.view_is c.self.invariant) c.args.count (there g c))
@@ -36,13 +36,13 @@ room g c b =
     let long : length c.parent_of-parent.result.label ≡ label_bytes = ap length p.label ∙ label_long (pieces gs) in
     record {
       kind_fits = omega arith;
-      height_fits = omega (arith, p.height, c.requires.sound.1);
+      height_fits = omega (arith, p.height, c.requires.fits.sound.1);
       text_fits = omega arith;
-      room = omega (arith, c.requires.room, length-take (length st - c.args.count) st);
+      room = omega (arith, c.requires.fits.room, length-take (length st - c.args.count) st);
       work_room =
           omega (
             arith,
-            c.requires.work_room,
+            c.requires.fits.work_room,
             length_more (below c.args.count st) (parent Sha256.label (highest_of gs) (map head_of gs)),
             label_long (pieces gs),
           );
